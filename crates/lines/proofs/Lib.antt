@@ -1,0 +1,3 @@
+mod Cuts
+pub mod Laws
+pub mod Numerals
