@@ -66,6 +66,13 @@ impl<'a> Lines<'a> {
         Lines { rest: file, passed: 0 }
     }
 
+    /// How many lines were handed out.
+    pub fn passed(&self) -> usize
+        ensures { λ r. ⌜ r ≡ now (self .entry) .passed ⌝ }
+    {
+        self.passed
+    }
+
     /// The next line, if there is one: what stands up to the next byte 10, or up to the file's end.
     pub fn next(&mut self) -> Option<Line<'a>>
         ensures cases { λ r. ⌜ BySome r

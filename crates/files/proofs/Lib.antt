@@ -1,0 +1,3 @@
+mod BadFields
+mod Letters
+mod Written

@@ -1,0 +1,6 @@
+//! Network files: what their lines say, and how they are written.
+
+pub mod faults;
+mod fields;
+pub mod reading;
+pub mod records;
