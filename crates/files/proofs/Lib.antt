@@ -1,3 +1,6 @@
 mod BadFields
 mod Letters
+mod LineByLine
+mod OneAnswer
+mod OneLine
 mod Written

@@ -2,5 +2,6 @@
 
 pub mod faults;
 mod fields;
+pub mod judging;
 pub mod reading;
 pub mod records;
