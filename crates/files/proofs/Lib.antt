@@ -3,4 +3,5 @@ mod Letters
 mod LineByLine
 mod OneAnswer
 mod OneLine
+mod Texts
 mod Written

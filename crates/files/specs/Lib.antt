@@ -2,3 +2,4 @@ pub mod Answers
 pub mod Faults
 pub mod Rendering
 pub mod Says
+pub mod Writes

@@ -5,3 +5,4 @@ mod fields;
 pub mod judging;
 pub mod reading;
 pub mod records;
+pub mod writing;
