@@ -1,4 +1,5 @@
 mod BadFields
+mod Copies
 mod Letters
 mod LineByLine
 mod OneAnswer

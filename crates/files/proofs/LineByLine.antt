@@ -38,7 +38,7 @@ say-same-length [] (r ∷ rs) h = absurd h
 say-same-length (l ∷ ls) [] h = absurd h
 say-same-length (l ∷ ls) (r ∷ rs) h = let e = say-same-length ls rs (h .1) in omega arith
 
-say-more : (ls : List Text) (rs : List Record) (l : Text) (r : Record) → SayRecords ls rs → SaysRecord l r → SayRecords (ls ++ (l ∷ [])) (rs ++ (r ∷ []))
+pub say-more : (ls : List Text) (rs : List Record) (l : Text) (r : Record) → SayRecords ls rs → SaysRecord l r → SayRecords (ls ++ (l ∷ [])) (rs ++ (r ∷ []))
 say-more [] [] l r h s = (s, tt)
 say-more [] (q ∷ qs) l r h s = absurd h
 say-more (k ∷ ks) [] l r h s = absurd h
@@ -51,7 +51,7 @@ begins file s passed left f e h = go (linesOf file) refl f e h
     go [] is f e h = let z : _≡_ {A = ℕ} 0 1 = cc in absurd (omega arith)
     go (l ∷ ls) is f e h = record { head = l; good = []; rs = []; lines = cc; size = f; say = tt; count = refl; place = let x = ap length e in omega arith }
 
-pub goes-on : (file : List ℕ) (s : Size) (n passed m : ℕ) (left rest : List Text) (r : Record) → Upto file s n passed left → NextSays passed left (Ok (Some r)) m rest → Upto file s (n + 1) m rest
+unfoldable pub goes-on : (file : List ℕ) (s : Size) (n passed m : ℕ) (left rest : List Text) (r : Record) → Upto file s n passed left → NextSays passed left (Ok (Some r)) m rest → Upto file s (n + 1) m rest
 goes-on file s n passed m left rest r u h =
     let l : Text = h .0 in
     let a = append-assoc (u .good) (l ∷ []) rest in
@@ -78,7 +78,7 @@ record-fault file s n passed m left rest f u h =
     later (u .head) (h .0) (u .good) rest s (u .rs) (cc) (u .size) (u .say) (rw p at (h .2))
 
 -- lines that say records make up the text of these
-text-of : (ls : List Text) (rs : List Record) → SayRecords ls rs → fileOf ls ≡ joined (λ r. finished (recordText r)) rs
+pub text-of : (ls : List Text) (rs : List Record) → SayRecords ls rs → fileOf ls ≡ joined (λ r. finished (recordText r)) rs
 text-of [] [] h = refl
 text-of [] (r ∷ rs) h = absurd h
 text-of (l ∷ ls) [] h = absurd h

@@ -79,7 +79,7 @@ no-bad-row n (l ∷ ls) good rest bad [] f h e x = h
 no-bad-row n (l ∷ ls) [] rest bad (r ∷ rs) f h e x = let i : l ≡ bad = cc in record-or-fault n bad r f (rw i at (h .0)) x
 no-bad-row n (l ∷ ls) (g ∷ good) rest bad (r ∷ rs) f h e x = let i : ls ≡ good ++ (bad ∷ rest) = cc in no-bad-row n ls good rest bad rs f (h .1) i x
 
-reads-or-fault : (file : List ℕ) (s : Size) (rs : List Record) (f : TextFault) → Reads file s rs → FileFault file f → ⊥
+pub reads-or-fault : (file : List ℕ) (s : Size) (rs : List Record) (f : TextFault) → Reads file s rs → FileFault file f → ⊥
 reads-or-fault file s rs f h (empty e i) = let a = lines-read file s rs h in let z : _≡_ {A = ℕ} 0 1 = cc in omega arith
 reads-or-fault file s rs f h (first l ls e x) =
     let a = lines-read file s rs h in

@@ -12,13 +12,13 @@ use Rattle.files.specs.Rendering.{numbersText, lineText, finished, Small}
 use Rattle.files.specs.Writes.{Wrote}
 
 -- what was written, and what follows it
-wrote-front : (text : List ℕ) (at : ℕ) (old new : List ℕ) (end : ℕ) → Wrote text at old new end → (take end new ≡ take at old ++ text) × (drop end new ≡ drop end old)
+pub wrote-front : (text : List ℕ) (at : ℕ) (old new : List ℕ) (end : ℕ) → Wrote text at old new end → (take end new ≡ take at old ++ text) × (drop end new ≡ drop end old)
 wrote-front text at old new end w =
     let l : length (take at old ++ text) ≡ end = length-append (take at old) text ∙ ap (λ n. n + length text) (length-take-le at old (let e = w .ends in let f = w .fits in omega arith)) ∙ sym (w .ends) in
     let b : new ≡ (take at old ++ text) ++ drop end old = w .bytes ∙ sym (append-assoc (take at old) text (drop end old)) in
     (ap (take end) b ∙ take-at (take at old ++ text) (drop end old) end l, ap (drop end) b ∙ drop-at (take at old ++ text) (drop end old) end l)
 
-drop-later : (m n : ℕ) (xs ys : List ℕ) → n ≤ m → drop n xs ≡ drop n ys → drop m xs ≡ drop m ys
+pub drop-later : (m n : ℕ) (xs ys : List ℕ) → n ≤ m → drop n xs ≡ drop n ys → drop m xs ≡ drop m ys
 drop-later m n xs ys h e =
     let a : n + (m - n) ≡ m = omega arith in
     ap (λ k. drop k xs) (sym a) ∙ sym (drop-drop (m - n) n xs) ∙ ap (drop (m - n)) e ∙ drop-drop (m - n) n ys ∙ ap (λ k. drop k ys) a

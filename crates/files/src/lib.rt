@@ -5,4 +5,5 @@ mod fields;
 pub mod judging;
 pub mod reading;
 pub mod records;
+pub mod rewriting;
 pub mod writing;
