@@ -6,11 +6,11 @@ use mathlib.Core.List.{List}
 use lib.ListN.{length}
 use Rattle.std.specs.declared.result.Result.{Result}
 use Rattle.std.specs.declared.result.Result.the-variants.{Ok, Err}
-use Rattle.files.specs.declared.faults.Layer.{Layer}
-use Rattle.files.specs.declared.faults.TextFault.{TextFault}
+use Rattle.records.specs.declared.faults.Layer.{Layer}
+use Rattle.records.specs.declared.faults.TextFault.{TextFault}
 use Rattle.files.specs.declared.judging.Summary.{Summary}
 use Rattle.files.specs.Answers.{summary, Answers, Sole}
-use Rattle.files.specs.Faults.{partsOf}
+use Rattle.records.specs.Faults.{partsOf}
 use Rattle.answers.specs.Prints.{faultLine, readLine, tooLong, Prints, refused-whole, accepted, refused, Answered}
 
 module _ (input text : List ℕ) where

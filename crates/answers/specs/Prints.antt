@@ -5,11 +5,11 @@ use mathlib.Core.List.{List, [], _∷_, _++_}
 use lib.Chars.{codes}
 use lib.ListN.{length}
 use Rattle.std.specs.Written.{decimal}
-use Rattle.files.specs.declared.faults.Layer.the-variants.{Study}
-use Rattle.files.specs.declared.faults.TextFault.{TextFault}
-use Rattle.files.specs.declared.records.Record.{Record}
-use Rattle.files.specs.declared.records.Size.{Size}
-use Rattle.files.specs.Faults.{Parts, wordOf, partsOf}
+use Rattle.records.specs.declared.faults.Layer.the-variants.{Study}
+use Rattle.records.specs.declared.faults.TextFault.{TextFault}
+use Rattle.records.specs.declared.Record.{Record}
+use Rattle.records.specs.declared.Size.{Size}
+use Rattle.records.specs.Faults.{Parts, wordOf, partsOf}
 use Rattle.files.specs.Says.{Reads, FileFault}
 
 -- a number as the last field of a line, and as one that others follow

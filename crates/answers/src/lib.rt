@@ -4,7 +4,7 @@ ghost use mathlib.Core.Path.{_≡_};
 ghost use Rattle.std.specs.Of.String.{string-bytes};
 ghost use Rattle.std.specs.Vec.{made};
 ghost use Rattle.answers.specs.Prints.{faultLine, readLine, Answered};
-use files::faults::Layer;
+use records::faults::Layer;
 use files::judging::Summary;
 use files::judging::judge;
 use std::alloc::AllocError;

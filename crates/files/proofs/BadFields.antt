@@ -8,8 +8,8 @@ use mathlib.Core.Bool.{true}
 use lib.ListN.{length, getD}
 use Rattle.lines.specs.Numbers.{Spelled}
 use Rattle.lines.specs.Pieces.{Text}
-use Rattle.files.specs.declared.faults.TextFault.{TextFault}
-use Rattle.files.specs.declared.faults.TextFault.the-variants.{NoNumber}
+use Rattle.records.specs.declared.faults.TextFault.{TextFault}
+use Rattle.records.specs.declared.faults.TextFault.the-variants.{NoNumber}
 use Rattle.files.specs.Says.{behind, NumbersFault}
 
 module _ (n i : ℕ) (l : Text) (f : TextFault) (fin : l .1 ≡ true) (is : f ≡ NoNumber n i) where

@@ -12,18 +12,18 @@ use Rattle.std.specs.declared.result.Result.the-variants.{Ok, Err}
 use Rattle.std.specs.Joined.{joined}
 use Rattle.lines.specs.Pieces.{Text, linesOf, fileOf, ending}
 use Rattle.lines.proofs.Laws.{lined}
-use Rattle.files.specs.declared.faults.TextFault.{TextFault}
-use Rattle.files.specs.declared.records.Record.{Record}
-use Rattle.files.specs.declared.records.Size.{Size}
-use Rattle.files.specs.declared.writing.WriteFault.{WriteFault}
-use Rattle.files.specs.declared.writing.WriteFault.the-variants.{LargeNumber, NoRoom}
-use Rattle.files.specs.Rendering.{lineText, sizeText, sizeNumbers, recordText, finished, fileText, Small}
+use Rattle.records.specs.declared.faults.TextFault.{TextFault}
+use Rattle.records.specs.declared.Record.{Record}
+use Rattle.records.specs.declared.Size.{Size}
+use Rattle.records.specs.declared.writing.WriteFault.{WriteFault}
+use Rattle.records.specs.declared.writing.WriteFault.the-variants.{LargeNumber, NoRoom}
+use Rattle.records.specs.Rendering.{lineText, sizeText, sizeNumbers, recordText, finished, fileText, Small}
 use Rattle.files.specs.Rewrites.{Readable}
 use Rattle.files.specs.Says.{SaysSize, SaysRecord, SayRecords, FirstSays, NextSays, Reads, FileFault}
-use Rattle.files.specs.Writes.{Wrote, WritesLine}
+use Rattle.records.specs.Writes.{Wrote, WritesLine}
 use Rattle.files.proofs.LineByLine.{Upto, begins, goes-on, record-fault, all-read, text-of}
 use Rattle.files.proofs.OneAnswer.{reads-or-fault}
-use Rattle.files.proofs.Texts.{wrote-front, wrote-then, drop-later}
+use Rattle.records.proofs.Texts.{wrote-front, wrote-then, drop-later}
 
 -- What the lines so far say is written; the first of them ended at `first`.
 pub record Copying (file : List ℕ) (passed : ℕ) (left : List Text) (old new : List ℕ) (first end : ℕ) : Type 0 where

@@ -4,5 +4,4 @@ mod Letters
 mod LineByLine
 mod OneAnswer
 mod OneLine
-mod Texts
 mod Written

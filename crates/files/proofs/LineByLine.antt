@@ -12,13 +12,13 @@ use Rattle.std.specs.declared.result.Result.the-variants.{Ok, Err}
 use Rattle.std.specs.Joined.{joined}
 use Rattle.lines.specs.Pieces.{Text, linesOf, fileOf}
 use Rattle.lines.proofs.Laws.{lined}
-use Rattle.files.specs.declared.faults.TextFault.{TextFault}
-use Rattle.files.specs.declared.faults.TextFault.the-variants.{NoSize}
-use Rattle.files.specs.declared.records.Record.{Record}
-use Rattle.files.specs.declared.records.Size.{Size}
+use Rattle.records.specs.declared.faults.TextFault.{TextFault}
+use Rattle.records.specs.declared.faults.TextFault.the-variants.{NoSize}
+use Rattle.records.specs.declared.Record.{Record}
+use Rattle.records.specs.declared.Size.{Size}
 use Rattle.files.specs.declared.judging.Summary.{Summary}
 use Rattle.files.specs.Answers.{summary}
-use Rattle.files.specs.Rendering.{sizeText, recordText, finished, fileText, AllSmall}
+use Rattle.records.specs.Rendering.{sizeText, recordText, finished, fileText, AllSmall}
 use Rattle.files.specs.Says.{SaysSize, SaysRecord, SayRecords, FirstSays, NextSays, FileFault, empty, first, later, Reads}
 
 -- The lines read so far say the size and n records; `left` are to come.

@@ -11,13 +11,13 @@ use Rattle.std.specs.declared.result.Result.the-variants.{Ok, Err}
 use Rattle.std.specs.Joined.{joined}
 use Rattle.lines.specs.Pieces.{Text, Lacks, linesOf}
 use Rattle.lines.proofs.Laws.{lines-finished}
-use Rattle.files.specs.declared.faults.TextFault.{TextFault}
+use Rattle.records.specs.declared.faults.TextFault.{TextFault}
 use Rattle.files.specs.declared.judging.Summary.{Summary}
-use Rattle.files.specs.declared.records.Record.{Record}
-use Rattle.files.specs.declared.records.Record.the-variants.{Entry, Home, Way}
-use Rattle.files.specs.declared.records.Size.{Size}
+use Rattle.records.specs.declared.Record.{Record}
+use Rattle.records.specs.declared.Record.the-variants.{Entry, Home, Way}
+use Rattle.records.specs.declared.Size.{Size}
 use Rattle.files.specs.Answers.{summary, Answers, Sole}
-use Rattle.files.specs.Rendering.{numbersText, lineText, sizeNumbers, letterOf, numbersOf, sizeText, recordText, finished, fileText, Small, AllSmall}
+use Rattle.records.specs.Rendering.{numbersText, lineText, sizeNumbers, letterOf, numbersOf, sizeText, recordText, finished, fileText, Small, AllSmall}
 use Rattle.files.specs.Says.{SaysSize, SaysRecord, SayRecords, RecordFault, SizeFault, Reads, FileFault, empty, first, later}
 use Rattle.files.proofs.OneLine.{lacks-decimal, lacks-append, size-or-fault, size-one, size-fault-one, record-or-fault, record-one, record-fault-one}
 

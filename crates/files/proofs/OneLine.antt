@@ -15,12 +15,12 @@ use Rattle.lines.specs.Numbers.{Spelled}
 use Rattle.lines.specs.Pieces.{Text, Lacks, fieldsOf, lineOf, Apart}
 use Rattle.lines.proofs.Laws.{fields-back}
 use Rattle.lines.proofs.Numerals.{decimal-spelled, spells-one}
-use Rattle.files.specs.declared.faults.TextFault.{TextFault}
-use Rattle.files.specs.declared.faults.TextFault.the-variants.{NoSize, UnknownLetter, WrongShape, NoNumber, SizeAgain}
-use Rattle.files.specs.declared.records.Record.{Record}
-use Rattle.files.specs.declared.records.Record.the-variants.{Entry, Home, Way}
-use Rattle.files.specs.declared.records.Size.{Size}
-use Rattle.files.specs.Rendering.{numbersText, lineText, sizeNumbers, letterOf, numbersOf, recordText, sizeText, Small}
+use Rattle.records.specs.declared.faults.TextFault.{TextFault}
+use Rattle.records.specs.declared.faults.TextFault.the-variants.{NoSize, UnknownLetter, WrongShape, NoNumber, SizeAgain}
+use Rattle.records.specs.declared.Record.{Record}
+use Rattle.records.specs.declared.Record.the-variants.{Entry, Home, Way}
+use Rattle.records.specs.declared.Size.{Size}
+use Rattle.records.specs.Rendering.{numbersText, lineText, sizeNumbers, letterOf, numbersOf, recordText, sizeText, Small}
 use Rattle.files.specs.Says.{SaysSize, SaysRecord, firstField, behind, sizeLetter, recordLetter, Misshapen, BadField, NumbersFault, SizeFaultBy, SizeFault, RecordFaultBy, RecordFault}
 use Rattle.files.proofs.Written.{line-of-numbers}
 

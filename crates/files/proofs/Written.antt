@@ -8,7 +8,7 @@ use Rattle.std.proofs.shelf.Lists.{append-nil}
 use Rattle.std.specs.Written.{decimal}
 use Rattle.lines.specs.Pieces.{Text, fieldsOf, lineOf}
 use Rattle.lines.proofs.Laws.{line-back}
-use Rattle.files.specs.Rendering.{numbersText, lineText}
+use Rattle.records.specs.Rendering.{numbersText, lineText}
 use Rattle.files.specs.Says.{behind, HasNumbers}
 
 pub line-of-numbers : (f : List ℕ) (ns : List ℕ) → lineOf (f ∷ map decimal ns) ≡ f ++ numbersText ns

@@ -5,10 +5,10 @@ use mathlib.Core.List.{List}
 use lib.ListN.{length}
 use Rattle.std.specs.declared.result.Result.{Result}
 use Rattle.std.specs.declared.result.Result.the-variants.{Ok, Err}
-use Rattle.files.specs.declared.faults.TextFault.{TextFault}
+use Rattle.records.specs.declared.faults.TextFault.{TextFault}
 use Rattle.files.specs.declared.judging.Summary.{Summary}
-use Rattle.files.specs.declared.records.Record.{Record}
-use Rattle.files.specs.declared.records.Size.{Size}
+use Rattle.records.specs.declared.Record.{Record}
+use Rattle.records.specs.declared.Size.{Size}
 use Rattle.files.specs.Says.{Reads, FileFault}
 
 abbrev pub summary : Size → List Record → Summary

@@ -14,11 +14,11 @@ use Rattle.std.specs.Results.{Cases}
 use Rattle.std.specs.Written.{decimal}
 use Rattle.lines.specs.Numbers.{Spelled}
 use Rattle.lines.specs.Pieces.{Text, linesOf, fieldsOf}
-use Rattle.files.specs.declared.faults.TextFault.{TextFault}
-use Rattle.files.specs.declared.faults.TextFault.the-variants.{NoSize, UnknownLetter, WrongShape, NoNumber, SizeAgain}
-use Rattle.files.specs.declared.records.Record.{Record}
-use Rattle.files.specs.declared.records.Size.{Size}
-use Rattle.files.specs.Rendering.{sizeNumbers, sizeText, numbersOf, recordText, fileText, Small, AllSmall}
+use Rattle.records.specs.declared.faults.TextFault.{TextFault}
+use Rattle.records.specs.declared.faults.TextFault.the-variants.{NoSize, UnknownLetter, WrongShape, NoNumber, SizeAgain}
+use Rattle.records.specs.declared.Record.{Record}
+use Rattle.records.specs.declared.Size.{Size}
+use Rattle.records.specs.Rendering.{sizeNumbers, sizeText, numbersOf, recordText, fileText, Small, AllSmall}
 
 -- A line says a size, or a record, when it is finished and is how that is written.
 pub record SaysSize (l : Text) (s : Size) : Type 0 where

@@ -1,9 +1,9 @@
 //! Judging the text of a whole network file.
 
 ghost use Rattle.files.specs.Answers.{Answers, Sole};
-use crate::faults::TextFault;
+use records::faults::TextFault;
 use crate::reading::Reader;
-use crate::records::Size;
+use records::Size;
 
 /// What an accepted file holds.
 #[derive(Clone, Copy)]

@@ -1,9 +1,6 @@
-//! Network files: what their lines say, and how they are written.
+//! Network files: reading them, judging their text, writing them anew.
 
-pub mod faults;
 mod fields;
 pub mod judging;
 pub mod reading;
-pub mod records;
 pub mod rewriting;
-pub mod writing;

@@ -6,12 +6,12 @@ ghost use lib.ListN.{length, drop};
 ghost use Rattle.std.specs.Results.{Cases};
 ghost use Rattle.lines.specs.Pieces.{linesOf};
 ghost use Rattle.files.specs.Says.{SaysSize, SizeFault, SaysRecord, RecordFault, FirstSays, NextSays};
-use crate::faults::TextFault;
+use records::faults::TextFault;
 use crate::fields::split_letter;
 use crate::fields::three_numbers;
 use crate::fields::two_numbers;
-use crate::records::Record;
-use crate::records::Size;
+use records::Record;
+use records::Size;
 use lines::Line;
 use lines::Lines;
 

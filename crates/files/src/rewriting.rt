@@ -3,10 +3,10 @@
 ghost use mathlib.Core.Path.{_≡_};
 ghost use Rattle.files.specs.Rewrites.{Rewrites};
 ghost use Rattle.files.specs.declared.rewriting.RewriteFault.the-variants.{Text, Line};
-use crate::faults::TextFault;
+use records::faults::TextFault;
 use crate::judging::judge;
 use crate::reading::Reader;
-use crate::writing::WriteFault;
+use records::writing::WriteFault;
 
 /// Why a file was not written anew.
 #[derive(Clone, Copy)]

@@ -2,7 +2,7 @@ use native.Mathlib.Omega.{arith}
 use mathlib.Core.Path.{refl}
 use Rattle.std.proofs.shelf.Results.{err-from-errBy}
 use Rattle.files.proofs.Copies.{surely, size-room, size-small, starts, record-room, more, no-fault, done}
-use Rattle.files.specs.Rendering.{sizeNumbers, letterOf, numbersOf}
+use Rattle.records.specs.Rendering.{sizeNumbers, letterOf, numbersOf}
 use Rattle.files.proofs.LineByLine.{size-fault}
 use Rattle.files.proofs.OneAnswer.{reads-or-fault}
 use Rattle.files.proofs.rewriting.rewrite.Needs as need

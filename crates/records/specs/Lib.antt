@@ -1,0 +1,3 @@
+pub mod Faults
+pub mod Rendering
+pub mod Writes
