@@ -4,9 +4,9 @@ ghost use mathlib.Core.Path.{_≡_};
 ghost use Rattle.std.specs.Of.String.{string-bytes};
 ghost use Rattle.std.specs.Vec.{made};
 ghost use Rattle.answers.specs.Prints.{faultLine, readLine, Answered};
-use records::faults::Layer;
 use files::judging::Summary;
 use files::judging::judge;
+use records::faults::Layer;
 use std::alloc::AllocError;
 use std::alloc::Global;
 
@@ -14,7 +14,13 @@ use std::alloc::Global;
 pub const LIMIT: usize = 32_768;
 
 // The line that tells a fault.
-fn fault_line(heap: Global, layer: Layer, number: u16, line: usize, field: usize) -> Result<String, AllocError>
+fn fault_line(
+    heap: Global,
+    layer: Layer,
+    number: u16,
+    line: usize,
+    field: usize,
+) -> Result<String, AllocError>
     ensures { λ r. ⌜ made r (λ s. string-bytes s ≡ faultLine (record { layer = layer; number = number; line = line; field = field })) ⌝ }
 {
     let layer = layer.word();
@@ -40,6 +46,12 @@ pub fn answer(heap: Global, input: &[u8]) -> Result<String, AllocError>
     }
     match judge(input) {
         Ok(summary) => read_line(heap, summary),
-        Err(fault) => fault_line(heap, fault.layer(), fault.number(), fault.line(), fault.field()),
+        Err(fault) => fault_line(
+            heap,
+            fault.layer(),
+            fault.number(),
+            fault.line(),
+            fault.field(),
+        ),
     }
 }

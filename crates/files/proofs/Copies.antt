@@ -81,9 +81,13 @@ module _ (file : List ℕ) (s : Size) (passed : ℕ) (left : List Text) (says : 
       let d = wrote-front (finished (sizeText s)) 0 old new end w .1 in
       let e = size-alone file s passed left u in
       let b = w .bytes in
-      record
-        { size = s; count = 0; upto = u; later = omega arith
-        ; wrote = record { ends = let x = w .ends in let y = ap length e in omega arith; fits = let f = w .fits in omega arith; bytes = cc } }
+      record {
+        size = s;
+        count = 0;
+        upto = u;
+        later = omega arith;
+        wrote = record { ends = let x = w .ends in let y = ap length e in omega arith; fits = let f = w .fits in omega arith; bytes = cc };
+      }
 
 module _ (file : List ℕ) (passed m : ℕ) (left rest : List Text) (old new : List ℕ) (first end : ℕ) (c : Copying file passed left old new first end) where
   pub record-room : (r : Record) → NextSays passed left (Ok (Some r)) m rest → end + length (finished (recordText r)) ≤ length file
@@ -103,9 +107,13 @@ module _ (file : List ℕ) (passed m : ℕ) (left rest : List Text) (old new : L
       let s : Size = c .size in
       let text : fileText s (c .upto .rs) ++ finished (recordText r) ≡ fileText s (c .upto .rs ++ (r ∷ [])) = joined-more (λ q. finished (recordText q)) (finished (sizeText s)) (c .upto .rs) r in
       let both = wrote-then (fileText s (c .upto .rs)) (finished (recordText r)) 0 end end′ old new newer (c .wrote) same w in
-      record
-        { size = s; count = c .count + 1; upto = goes-on file s (c .count) passed m left rest r (c .upto) h
-        ; later = let a = c .later in let b = w .ends in omega arith; wrote = subst (λ t. Wrote t 0 old newer end′) text both }
+      record {
+        size = s;
+        count = c .count + 1;
+        upto = goes-on file s (c .count) passed m left rest r (c .upto) h;
+        later = let a = c .later in let b = w .ends in omega arith;
+        wrote = subst (λ t. Wrote t 0 old newer end′) text both;
+      }
 
   pub no-fault : (f : TextFault) → (s : Size) (rs : List Record) → Reads file s rs → NextSays passed left (Err f) m rest → ⊥
   no-fault f s rs r h = reads-or-fault file s rs f r (record-fault file (c .size) (c .count) passed m left rest f (c .upto) h)

@@ -59,9 +59,16 @@ goes-on file s n passed m left rest r u h =
     let i = h .1 in
     let c = length-push (u .rs) r in
     let d = length-push (u .good) l in
-    record
-      { head = u .head; good = u .good ++ (l ∷ []); rs = u .rs ++ (r ∷ []); lines = cc; size = u .size
-      ; say = say-more (u .good) (u .rs) l r (u .say) (h .2); count = let k = u .count in omega arith; place = let k = u .place in let q = h .3 in omega arith }
+    record {
+      head = u .head;
+      good = u .good ++ (l ∷ []);
+      rs = u .rs ++ (r ∷ []);
+      lines = cc;
+      size = u .size;
+      say = say-more (u .good) (u .rs) l r (u .say) (h .2);
+      count = let k = u .count in omega arith;
+      place = let k = u .place in let q = h .3 in omega arith;
+    }
 
 pub size-fault : (file : List ℕ) (f : TextFault) → FirstSays (linesOf file) (Err f) → FileFault file f
 size-fault file f h = go (linesOf file) refl h

@@ -67,9 +67,10 @@ reads-one file s t rs qs h k =
     let a = lines-read file s rs h in
     let b = lines-read file t qs k in
     let e : _≡_ {A = Text} (sizeText s, true) (sizeText t, true) = cc in
-    let d : rows rs ≡ rows qs = cc in
-    ( size-one (sizeText s, true) s t (size-read file s rs h) (rw e (size-read file t qs k))
-    , say-one (rows rs) rs qs (rows-say rs (h .small)) (rw d (rows-say qs (k .small))) )
+    let d : rows rs ≡ rows qs = cc in (
+      size-one (sizeText s, true) s t (size-read file s rs h) (rw e (size-read file t qs k)),
+      say-one (rows rs) rs qs (rows-say rs (h .small)) (rw d (rows-say qs (k .small))),
+    )
 
 -- no line of those that say records has a fault
 no-bad-row : (n : ℕ) (ls good rest : List Text) (bad : Text) (rs : List Record) (f : TextFault) → SayRecords ls rs → ls ≡ good ++ (bad ∷ rest) → RecordFault n bad f → ⊥
@@ -122,12 +123,14 @@ same-answer s t rs qs e h = rw (e, h) refl
 
 pub sole : (file : List ℕ) (r : Result Summary TextFault) → Answers file r → Sole file r
 sole file (Ok a) h =
-    record
-      { reads = λ s rs k. let e = reads-one file (h .0) s (h .1) rs (h .2) k in ap Ok (h .3 ∙ same-answer (h .0) s (h .1) rs (e .0) (e .1))
-      ; faults = λ f x. absurd (reads-or-fault file (h .0) (h .1) f (h .2) x)
-      ; one = reads-one file }
+    record {
+      reads = λ s rs k. let e = reads-one file (h .0) s (h .1) rs (h .2) k in ap Ok (h .3 ∙ same-answer (h .0) s (h .1) rs (e .0) (e .1));
+      faults = λ f x. absurd (reads-or-fault file (h .0) (h .1) f (h .2) x);
+      one = reads-one file;
+    }
 sole file (Err f) h =
-    record
-      { reads = λ s rs k. absurd (reads-or-fault file s rs f k h)
-      ; faults = λ g x. ap Err (fault-one file f g h x)
-      ; one = reads-one file }
+    record {
+      reads = λ s rs k. absurd (reads-or-fault file s rs f k h);
+      faults = λ g x. ap Err (fault-one file f g h x);
+      one = reads-one file;
+    }

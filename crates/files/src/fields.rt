@@ -12,14 +12,14 @@ ghost use Rattle.lines.specs.Numbers.{Spelled, Spells};
 ghost use Rattle.lines.specs.Pieces.{fieldsOf, fieldsLeft};
 ghost use Rattle.files.specs.Says.{HasNumbers, NumbersFault};
 ghost use Rattle.records.specs.declared.faults.TextFault.the-variants.{NoNumber};
-use records::faults::TextFault;
 use lines::Field;
 use lines::Fields;
 use lines::Line;
 use lines::read_number;
+use records::faults::TextFault;
 
 // The letter that is a line's first field, and what stands behind its tab, if one follows it.
-pub fn split_letter(line: &[u8]) -> Option<(char, Option<&[u8]>)>
+pub(super) fn split_letter(line: &[u8]) -> Option<(char, Option<&[u8]>)>
     ensures { λ r. ⌜ BySome r ((c : ℕ) → getD (fieldsOf (now (line .entry))) 0 [] ≡ c ∷ [] → ⊥) (λ p. fieldsOf (now (line .entry)) ≡ (p .0 ∷ []) ∷ fieldsLeft text (p .1)) ⌝ }
 {
     match line {
@@ -62,12 +62,15 @@ fn number_in(field: Field, line: usize) -> Result<u16, TextFault>
 {
     match read_number(field.bytes) {
         Some(n) => Ok(n),
-        None => Err(TextFault::NoNumber { line, field: field.number }),
+        None => Err(TextFault::NoNumber {
+            line,
+            field: field.number,
+        }),
     }
 }
 
 // The two numbers of a line, where `rest` is what stands behind its letter.
-pub fn two_numbers(line: Line, rest: Option<&[u8]>) -> Result<(u16, u16), TextFault>
+pub(super) fn two_numbers(line: Line, rest: Option<&[u8]>) -> Result<(u16, u16), TextFault>
     requires { ⌜ drop 1 (fieldsOf (now (line .bytes))) ≡ fieldsLeft text rest ⌝ }
     ensures { λ r. ⌜ Cases r
         (λ p. HasNumbers (now (line .entry .bytes), line .entry .finished) (p .0 ∷ (p .1 ∷ [])))
@@ -84,7 +87,7 @@ pub fn two_numbers(line: Line, rest: Option<&[u8]>) -> Result<(u16, u16), TextFa
 }
 
 // The three numbers of a line, where `rest` is what stands behind its letter.
-pub fn three_numbers(line: Line, rest: Option<&[u8]>) -> Result<(u16, u16, u16), TextFault>
+pub(super) fn three_numbers(line: Line, rest: Option<&[u8]>) -> Result<(u16, u16, u16), TextFault>
     requires { ⌜ drop 1 (fieldsOf (now (line .bytes))) ≡ fieldsLeft text rest ⌝ }
     ensures { λ r. ⌜ Cases r
         (λ p. HasNumbers (now (line .entry .bytes), line .entry .finished) (p .0 ∷ (p .1 ∷ (p .2 ∷ []))))
@@ -97,5 +100,9 @@ pub fn three_numbers(line: Line, rest: Option<&[u8]>) -> Result<(u16, u16, u16),
     let Some((first, second, third)) = three_fields(rest) else {
         return Err(TextFault::WrongShape { line: number });
     };
-    Ok((number_in(first, number)?, number_in(second, number)?, number_in(third, number)?))
+    Ok((
+        number_in(first, number)?,
+        number_in(second, number)?,
+        number_in(third, number)?,
+    ))
 }

@@ -1,9 +1,9 @@
 //! Judging the text of a whole network file.
 
 ghost use Rattle.files.specs.Answers.{Answers, Sole};
-use records::faults::TextFault;
 use crate::reading::Reader;
 use records::Size;
+use records::faults::TextFault;
 
 /// What an accepted file holds.
 #[derive(Clone, Copy)]

@@ -6,14 +6,14 @@ ghost use lib.ListN.{length, drop};
 ghost use Rattle.std.specs.Results.{Cases};
 ghost use Rattle.lines.specs.Pieces.{linesOf};
 ghost use Rattle.files.specs.Says.{SaysSize, SizeFault, SaysRecord, RecordFault, FirstSays, NextSays};
-use records::faults::TextFault;
 use crate::fields::split_letter;
 use crate::fields::three_numbers;
 use crate::fields::two_numbers;
-use records::Record;
-use records::Size;
 use lines::Line;
 use lines::Lines;
+use records::Record;
+use records::Size;
+use records::faults::TextFault;
 
 // What the first line of a file says.
 fn read_size(line: Line) -> Result<Size, TextFault>
@@ -51,7 +51,11 @@ fn read_record(line: Line) -> Result<Record, TextFault>
         }
         'w' => {
             let (channel, place, next) = three_numbers(line, rest)?;
-            Ok(Record::Way { channel, place, next })
+            Ok(Record::Way {
+                channel,
+                place,
+                next,
+            })
         }
         'n' => Err(TextFault::SizeAgain { line: number }),
         _ => Err(TextFault::UnknownLetter { line: number }),

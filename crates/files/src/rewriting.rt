@@ -3,9 +3,9 @@
 ghost use mathlib.Core.Path.{_≡_};
 ghost use Rattle.files.specs.Rewrites.{Rewrites};
 ghost use Rattle.files.specs.declared.rewriting.RewriteFault.the-variants.{Text, Line};
-use records::faults::TextFault;
 use crate::judging::judge;
 use crate::reading::Reader;
+use records::faults::TextFault;
 use records::writing::WriteFault;
 
 /// Why a file was not written anew.

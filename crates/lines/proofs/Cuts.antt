@@ -7,7 +7,7 @@ use mathlib.Core.List.{List, [], _∷_, _++_}
 use mathlib.Core.Bool.{Bool, true, false, cond}
 use lib.Dec.{eqb, ltb}
 use lib.ListN.{length, take, drop}
-use Rattle.std.proofs.shelf.Lists.{nil-from-length, drop-all, take-rest}
+use Rattle.std.proofs.shelf.Lists.{nil-from-length, drop-all, take-rest, length-drop}
 use Rattle.std.proofs.shelf.Ways.{tells}
 use Rattle.lines.specs.Pieces.{Text, runTo, onLine, linesOf, onField, fieldsOf}
 
@@ -65,32 +65,42 @@ first-field (x ∷ xs) = field-more x xs (eqb x 9) refl (first-field xs)
 pub no-line : (xs : List ℕ) → length xs ≡ 0 → linesOf xs ≡ []
 no-line xs h = ap linesOf (nil-from-length xs h)
 
--- a finished line, and an unfinished one, as the reader takes them from what is left
-pub line-then : (xs rest : List ℕ) (n : ℕ) → n ≡ runTo 10 xs → n < length xs → rest ≡ take (length xs - (n + 1)) (drop (n + 1) xs) → linesOf xs ≡ (take (n - 0) xs, ltb n (length xs)) ∷ linesOf rest
+-- what follows the first n bytes
+length-part : (xs rest : List ℕ) (n : ℕ) → rest ≡ take (length xs - n) (drop n xs) → length rest ≡ length xs - n
+length-part xs rest n r = ap length (r ∙ take-rest xs n) ∙ length-drop n xs
+
+-- a finished line, and an unfinished one, as they are cut off
+abbrev CutLine : List ℕ → List ℕ → ℕ → Type 0
+CutLine xs rest n = (linesOf xs ≡ (take (n - 0) xs, ltb n (length xs)) ∷ linesOf rest) × (length rest < length xs)
+
+pub line-then : (xs rest : List ℕ) (n : ℕ) → n ≡ runTo 10 xs → n < length xs → rest ≡ take (length xs - (n + 1)) (drop (n + 1) xs) → CutLine xs rest n
 line-then xs rest n e h r =
     let f = first-line xs (omega arith) in
     let z : n - 0 ≡ n = omega arith in
     let t = take-rest xs (n + 1) in
-    cc
+    let l = length-part xs rest (n + 1) r in
+    (cc, omega arith)
 
-pub last-line : (xs rest : List ℕ) (n : ℕ) → 0 < length xs → n ≡ runTo 10 xs → length xs ≤ n → rest ≡ take (length xs - n) (drop n xs) → linesOf xs ≡ (take (n - 0) xs, ltb n (length xs)) ∷ linesOf rest
+pub last-line : (xs rest : List ℕ) (n : ℕ) → 0 < length xs → n ≡ runTo 10 xs → length xs ≤ n → rest ≡ take (length xs - n) (drop n xs) → CutLine xs rest n
 last-line xs rest n some e h r =
     let f = first-line xs some in
     let z : n - 0 ≡ n = omega arith in
     let t = take-rest xs n in
     let a = drop-all n xs h in
     let b = drop-all (n + 1) xs (omega arith) in
-    cc
+    let l = length-part xs rest n r in
+    (cc, omega arith)
 
 -- a field that a byte 9 follows, and the last one
-pub field-then : (xs rest : List ℕ) (n : ℕ) → n ≡ runTo 9 xs → n < length xs → rest ≡ take (length xs - (n + 1)) (drop (n + 1) xs) → fieldsOf xs ≡ take (n - 0) xs ∷ fieldsOf rest
+pub field-then : (xs rest : List ℕ) (n : ℕ) → n ≡ runTo 9 xs → n < length xs → rest ≡ take (length xs - (n + 1)) (drop (n + 1) xs) → (fieldsOf xs ≡ take (n - 0) xs ∷ fieldsOf rest) × (length rest + 1 ≤ length xs)
 field-then xs rest n e h r =
     let f = first-field xs in
     let l : ltb (runTo 9 xs) (length xs) ≡ true = grind (arith, tells) in
     let c : cond (ltb (runTo 9 xs) (length xs)) (fieldsOf (drop (runTo 9 xs + 1) xs)) [] ≡ fieldsOf (drop (runTo 9 xs + 1) xs) = rw l refl in
     let z : n - 0 ≡ n = omega arith in
     let t = take-rest xs (n + 1) in
-    cc
+    let k = length-part xs rest (n + 1) r in
+    (cc, omega arith)
 
 pub last-field : (xs : List ℕ) (n : ℕ) → n ≡ runTo 9 xs → length xs ≤ n → fieldsOf xs ≡ take (n - 0) xs ∷ []
 last-field xs n e h =

@@ -23,18 +23,20 @@ own = numerals-by-value (Digits 10) tells-digits
 
 zero-alone : (n : ℕ) → n < 10000 → getD (decimal n) 0 0 ≡ 48 → length (decimal n) ≡ 1
 zero-alone n h at =
-    elim (cases-eq n 0)
-    [ inl z ↦ ap length (ap decimal z ∙ decimal-digit 0 (omega arith))
-    | inr z ↦ let f = first-decimal n (omega arith) (omega arith) in absurd (omega arith) ]
+    elim (cases-eq n 0) [
+      | inl z ↦ ap length (ap decimal z ∙ decimal-digit 0 (omega arith))
+      | inr z ↦ let f = first-decimal n (omega arith) (omega arith) in absurd (omega arith)
+    ]
 
 -- what a number below 10,000 is written as is spelled by the rule
 pub decimal-spelled : (n : ℕ) → n < 10000 → Spelled (decimal n)
 decimal-spelled n h =
-    record
-      { some = decimal-some n (omega arith)
-      ; few = length-decimal-le 4 n (omega arith) h (omega arith)
-      ; digits = λ k l. let d = digit-at (decimal n) k (decimal-reads n (omega arith) .0 .1) l in (d .0, d .1)
-      ; leading = zero-alone n h }
+    record {
+      some = decimal-some n (omega arith);
+      few = length-decimal-le 4 n (omega arith) h (omega arith);
+      digits = λ k l. let d = digit-at (decimal n) k (decimal-reads n (omega arith) .0 .1) l in (d .0, d .1);
+      leading = zero-alone n h;
+    }
 
 pub spells-spelled : (bs : List ℕ) (n : ℕ) → Spells bs n → Spelled bs
 spells-spelled bs n s = subst Spelled (sym (s .written)) (decimal-spelled n (s .small))

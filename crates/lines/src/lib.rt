@@ -9,6 +9,9 @@ ghost use denote.Ref.{now as text};
 ghost use Rattle.lines.specs.Numbers.{Spelled, Spells};
 ghost use Rattle.lines.specs.Pieces.{runTo, linesOf, Lined, fieldsOf, fieldsLeft, atMost, Fielded};
 
+// How many digits a number has at most.
+const MAX_DIGITS: usize = 4;
+
 /// A line of a file, without the byte 10 that ends it.
 #[derive(Clone, Copy)]
 pub struct Line<'a> {
@@ -56,14 +59,34 @@ fn run_to(bytes: &[u8], stop: u8) -> usize
     bytes.len()
 }
 
+// The first of some lines, whether it is finished, and what follows it.
+fn cut_line<'a>(rest: &'a [u8]) -> Option<(&'a [u8], bool, &'a [u8])>
+    ensures cut { λ r. ⌜ BySome r (linesOf (now (rest .entry)) ≡ []) (λ p. (linesOf (now (rest .entry)) ≡ (now (p .0), p .1) ∷ linesOf (now (p .2))) × (length (now (p .2)) < length (now (rest .entry)))) ⌝ }
+    ensures lines { λ r. ⌜ Lined (now (rest .entry)) ⌝ }
+{
+    if rest.is_empty() {
+        return None;
+    }
+    let length = run_to(rest, b'\n');
+    let finished = length < rest.len();
+    let after = if finished {
+        &rest[length + 1..]
+    } else {
+        &rest[length..]
+    };
+    Some((&rest[0..length], finished, after))
+}
+
 impl<'a> Lines<'a> {
     /// All lines of the file.
     pub fn new(file: &'a [u8]) -> Lines<'a>
         ensures rest { λ r. ⌜ now (r .rest) ≡ now (file .entry) ⌝ }
         ensures passed { λ r. ⌜ r .passed ≡ 0 ⌝ }
-        ensures lines { λ r. ⌜ Lined (now (file .entry)) ⌝ }
     {
-        Lines { rest: file, passed: 0 }
+        Lines {
+            rest: file,
+            passed: 0,
+        }
     }
 
     /// How many lines were handed out.
@@ -78,19 +101,35 @@ impl<'a> Lines<'a> {
         ensures cases { λ r. ⌜ BySome r
             ((linesOf (now (now (self .entry) .rest)) ≡ []) × (linesOf (now (now (self .exit) .rest)) ≡ []) × (now (self .exit) .passed ≡ now (self .entry) .passed))
             (λ l. (linesOf (now (now (self .entry) .rest)) ≡ (now (l .bytes), l .finished) ∷ linesOf (now (now (self .exit) .rest))) × (l .number ≡ now (self .entry) .passed + 1) × (now (self .exit) .passed ≡ l .number)) ⌝ }
+        ensures lines { λ r. ⌜ Lined (now (now (self .entry) .rest)) ⌝ }
     {
-        let rest = self.rest;
-        if rest.is_empty() {
-            return None;
-        }
-        let length = run_to(rest, b'\n');
-        let bytes = &rest[0..length];
-        let finished = length < rest.len();
+        let (bytes, finished, rest) = cut_line(self.rest)?;
         let number = self.passed + 1;
-        self.rest = if finished { &rest[length + 1..] } else { &rest[length..] };
-        self.passed = number;
-        Some(Line { bytes, number, finished })
+        *self = Lines {
+            rest,
+            passed: number,
+        };
+        Some(Line {
+            bytes,
+            number,
+            finished,
+        })
     }
+}
+
+// The first field of a text, and what follows the byte 9 behind it, if one does.
+fn cut_field<'a>(rest: &'a [u8]) -> (&'a [u8], Option<&'a [u8]>)
+    ensures cut { λ r. ⌜ fieldsOf (now (rest .entry)) ≡ now (r .0) ∷ fieldsLeft text (r .1) ⌝ }
+    ensures fewer { λ r. ⌜ atMost text (r .1) ≤ length (now (rest .entry)) ⌝ }
+    ensures fields { λ r. ⌜ Fielded (now (rest .entry)) ⌝ }
+{
+    let length = run_to(rest, b'\t');
+    let after = if length < rest.len() {
+        Some(&rest[length + 1..])
+    } else {
+        None
+    };
+    (&rest[0..length], after)
 }
 
 impl<'a> Fields<'a> {
@@ -98,9 +137,11 @@ impl<'a> Fields<'a> {
     pub fn new(line: &'a [u8]) -> Fields<'a>
         ensures rest { λ r. ⌜ fieldsLeft text (r .rest) ≡ fieldsOf (now (line .entry)) ⌝ }
         ensures passed { λ r. ⌜ r .passed ≡ 0 ⌝ }
-        ensures fields { λ r. ⌜ Fielded (now (line .entry)) ⌝ }
     {
-        Fields { rest: Some(line), passed: 0 }
+        Fields {
+            rest: Some(line),
+            passed: 0,
+        }
     }
 
     /// The fields that follow the first one, where `rest` is what stands behind its byte 9, if one follows it.
@@ -109,8 +150,14 @@ impl<'a> Fields<'a> {
         ensures passed { λ r. ⌜ r .passed ≡ 1 ⌝ }
     {
         match rest {
-            Some(text) => Fields { rest: Some(text), passed: 1 },
-            None => Fields { rest: None, passed: 1 },
+            Some(text) => Fields {
+                rest: Some(text),
+                passed: 1,
+            },
+            None => Fields {
+                rest: None,
+                passed: 1,
+            },
         }
     }
 
@@ -119,13 +166,14 @@ impl<'a> Fields<'a> {
         ensures cases { λ r. ⌜ BySome r
             ((fieldsLeft text (now (self .entry) .rest) ≡ []) × (fieldsLeft text (now (self .exit) .rest) ≡ []) × (now (self .exit) .passed ≡ now (self .entry) .passed))
             (λ f. (fieldsLeft text (now (self .entry) .rest) ≡ now (f .bytes) ∷ fieldsLeft text (now (self .exit) .rest)) × (f .number ≡ now (self .entry) .passed + 1) × (now (self .exit) .passed ≡ f .number)) ⌝ }
+        ensures fields { λ r. ⌜ BySome (now (self .entry) .rest) (Unit {0}) (λ t. Fielded (text t)) ⌝ }
     {
-        let rest = self.rest?;
-        let length = run_to(rest, b'\t');
-        let bytes = &rest[0..length];
+        let (bytes, rest) = cut_field(self.rest?);
         let number = self.passed + 1;
-        self.rest = if length < rest.len() { Some(&rest[length + 1..]) } else { None };
-        self.passed = number;
+        *self = Fields {
+            rest,
+            passed: number,
+        };
         Some(Field { bytes, number })
     }
 }
@@ -134,7 +182,7 @@ impl<'a> Fields<'a> {
 pub fn read_number(field: &[u8]) -> Option<u16>
     ensures cases { λ r. ⌜ BySome r (Spelled (now (field .entry)) → ⊥) (λ n. Spelled (now (field .entry)) × Spells (now (field .entry)) n) ⌝ }
 {
-    if field.is_empty() || field.len() > 4 {
+    if field.is_empty() || field.len() > MAX_DIGITS {
         return None;
     }
     if field[0] == b'0' && field.len() > 1 {

@@ -17,9 +17,9 @@ impl Layer {
         ensures { λ r. ⌜ now r ≡ wordOf self ⌝ }
     {
         match self {
-            Layer::Text => "text",
-            Layer::Table => "table",
-            Layer::Study => "study",
+            Self::Text => "text",
+            Self::Table => "table",
+            Self::Study => "study",
         }
     }
 }

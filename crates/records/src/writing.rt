@@ -6,7 +6,7 @@ ghost use Prim.Native.Nat.{ℕ, _+_, _<_, _≤_};
 ghost use lib.ListN.{length, take, drop};
 ghost use Rattle.std.specs.Orderings.{Decides};
 ghost use Rattle.std.specs.Written.{decimal};
-ghost use Rattle.records.specs.Rendering.{finished, lineText, numbersText, sizeText, sizeNumbers, recordText, letterOf, numbersOf, Small};
+ghost use Rattle.records.specs.Rendering.{finished, lineText, numbersText, sizeNumbers, letterOf, numbersOf, Small};
 ghost use Rattle.records.specs.Writes.{Wrote, WritesLine};
 use crate::Record;
 use crate::Size;
@@ -99,13 +99,6 @@ fn write_line(letter: u8, numbers: &[u16], out: &mut [u8], at: usize) -> Result<
 }
 
 impl Size {
-    /// How many bytes its line takes.
-    pub fn text_len(self) -> usize
-        ensures { λ r. ⌜ r ≡ length (finished (sizeText self)) ⌝ }
-    {
-        line_len(&[self.channels, self.places])
-    }
-
     /// Writes its line into `out` from `at` on, and answers where the line ends. A refusal writes nothing.
     pub fn write(self, out: &mut [u8], at: usize) -> Result<usize, WriteFault>
         ensures { λ r. ⌜ WritesLine 110 (sizeNumbers self) at (now (out .entry)) r (now (out .exit)) ⌝ }
@@ -115,17 +108,6 @@ impl Size {
 }
 
 impl Record {
-    /// How many bytes its line takes.
-    pub fn text_len(self) -> usize
-        ensures { λ r. ⌜ r ≡ length (finished (recordText self)) ⌝ }
-    {
-        match self {
-            Record::Entry { channel, place } => line_len(&[channel, place]),
-            Record::Home { channel, place } => line_len(&[channel, place]),
-            Record::Way { channel, place, next } => line_len(&[channel, place, next]),
-        }
-    }
-
     /// Writes its line into `out` from `at` on, and answers where the line ends. A refusal writes nothing.
     pub fn write(self, out: &mut [u8], at: usize) -> Result<usize, WriteFault>
         ensures { λ r. ⌜ WritesLine (letterOf self) (numbersOf self) at (now (out .entry)) r (now (out .exit)) ⌝ }
@@ -133,7 +115,11 @@ impl Record {
         match self {
             Record::Entry { channel, place } => write_line(b'e', &[channel, place], out, at),
             Record::Home { channel, place } => write_line(b'h', &[channel, place], out, at),
-            Record::Way { channel, place, next } => write_line(b'w', &[channel, place, next], out, at),
+            Record::Way {
+                channel,
+                place,
+                next,
+            } => write_line(b'w', &[channel, place, next], out, at),
         }
     }
 }

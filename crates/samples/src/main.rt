@@ -47,7 +47,11 @@ fn untouched(bytes: &[u8]) -> bool {
 fn run(rt: &LibcRuntime) -> Result<(), AnyError> {
     let mut args = env::args(rt)?;
     let _ = args.next();
-    let mut tally = Tally { accepted: 0, same: 0, refused: 0 };
+    let mut tally = Tally {
+        accepted: 0,
+        same: 0,
+        refused: 0,
+    };
     for name in args {
         let file = fs::read(rt, name.as_str())?;
         let line = answer(rt.alloc(), file.as_slice())?;
@@ -57,7 +61,10 @@ fn run(rt: &LibcRuntime) -> Result<(), AnyError> {
     let accepted = tally.accepted;
     let same = tally.same;
     let refused = tally.refused;
-    println!(rt, "{accepted} files written anew: {same} the same, {refused} refused for want of a byte")?;
+    println!(
+        rt,
+        "{accepted} files written anew: {same} the same, {refused} refused for want of a byte"
+    )?;
     Ok(())
 }
 

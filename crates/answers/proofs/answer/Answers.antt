@@ -13,8 +13,8 @@ returns-in-Ok c =
 pub returns-in-Err : need.returns-in-Err
 returns-in-Err c =
     made-weaker
-      (c .fault-line-in-Err .result)
-      _
-      _
-      (λ s e. faulty (c .args .input .now) (string-bytes s) (c .in-Err .fault) (c .if-input-gt-LIMIT .left) (c .in-Err .ensures tt .answers) (c .in-Err .ensures tt .sole) (by-parts (c .args .input .now) (string-bytes s) (c .in-Err .fault) _ _ _ _ (c .layer .ensures) (c .number .ensures) (c .line .ensures) (c .field .ensures) e))
-      (c .fault-line-in-Err .ensures)
+    (c .fault-line-in-Err .result)
+    _
+    _
+    (λ s e. faulty (c .args .input .now) (string-bytes s) (c .in-Err .fault) (c .if-input-gt-LIMIT .left) (c .in-Err .ensures tt .answers) (c .in-Err .ensures tt .sole) (by-parts (c .args .input .now) (string-bytes s) (c .in-Err .fault) _ _ _ _ (c .layer .ensures) (c .number .ensures) (c .line .ensures) (c .field .ensures) e))
+    (c .fault-line-in-Err .ensures)

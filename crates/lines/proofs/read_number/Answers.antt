@@ -13,9 +13,11 @@ loop-byte-again c =
 
 pub returns : need.returns
 returns c =
-    let small : c .loop-byte .value < 10000 = below-10000 (c .loop-byte .value) (c .loop-byte .byte-index) (length (c .args .field .now)) (c .loop-byte .inv .2) (omega arith) (c .if-field-gt4 .left) in
+    let small : c .loop-byte .value < 10000 = below-10000 (c .loop-byte .value) (c .loop-byte .byte-index) (length (c .args .field .now)) (c .loop-byte .inv .2) (omega arith) (omega arith) in
     let some : 0 < length (c .args .field .now) = grind (arith, tells) in
-    record
-      { cases =
-          ( record { some = some; few = c .if-field-gt4 .left; digits = λ k h. c .loop-byte .inv .3 k (omega arith); leading = λ z. omega (arith, c .else-field-eq48 .either) }
-          , record { small = small; written = read-whole (c .args .field .now) (c .loop-byte .byte-index) (c .loop-byte .value) (c .loop-byte-test .left) (c .loop-byte .inv .0) (c .loop-byte .inv .1) (omega arith) some (λ z. omega (arith, c .else-field-eq48 .either)) } ) }
+    record {
+      cases = (
+        record { some = some; few = omega arith; digits = λ k h. c .loop-byte .inv .3 k (omega arith); leading = λ z. omega (arith, c .else-field-eq48 .either) },
+        record { small = small; written = read-whole (c .args .field .now) (c .loop-byte .byte-index) (c .loop-byte .value) (c .loop-byte-test .left) (c .loop-byte .inv .0) (c .loop-byte .inv .1) (omega arith) some (λ z. omega (arith, c .else-field-eq48 .either)) },
+      );
+    }

@@ -14,8 +14,9 @@ returns-in-9 c = followed (c .args .line .now) (c .from-in-9 .result) (grind (ar
 
 pub returns-in-rest : need.returns-in-rest
 returns-in-rest c = λ l e.
-    elim (c .in-rest .came)
-    [ in-rest·by·then-line-lt1 w ↦ elim (lettered (c .args .line .now) l e) [ inl p ↦ grind (arith, tells) | inr p ↦ grind (arith, tells) ]
-    | in-rest·by·in-len1·else-letter-ne9 w ↦ elim (lettered (c .args .line .now) l e) [ inl p ↦ p .1 (w .if-letter-ne9 .left) | inr p ↦ p .2 (w .if-letter-ne9 .left) ]
-    | in-rest·by·in-9·else-letter-ne9-2 w ↦ elim (lettered (c .args .line .now) l e) [ inl p ↦ p .1 (w .if-letter-ne9-2 .left) | inr p ↦ p .2 (w .if-letter-ne9-2 .left) ]
-    | in-rest·by·else-line-lt1·else-line-lt2·in-rest· w ↦ elim (lettered (c .args .line .now) l e) [ inl p ↦ grind (arith, tells) | inr p ↦ grind (arith, tells) ] ]
+    elim (c .in-rest .came) [
+      | in-rest·by·then-line-lt1 w ↦ elim (lettered (c .args .line .now) l e) [ inl p ↦ grind (arith, tells) | inr p ↦ grind (arith, tells) ]
+      | in-rest·by·in-len1·else-letter-ne9 w ↦ elim (lettered (c .args .line .now) l e) [ inl p ↦ p .1 (w .if-letter-ne9 .left) | inr p ↦ p .2 (w .if-letter-ne9 .left) ]
+      | in-rest·by·in-9·else-letter-ne9-2 w ↦ elim (lettered (c .args .line .now) l e) [ inl p ↦ p .1 (w .if-letter-ne9-2 .left) | inr p ↦ p .2 (w .if-letter-ne9-2 .left) ]
+      | in-rest·by·else-line-lt1·else-line-lt2·in-rest· w ↦ elim (lettered (c .args .line .now) l e) [ inl p ↦ grind (arith, tells) | inr p ↦ grind (arith, tells) ]
+    ]
