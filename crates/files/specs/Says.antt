@@ -18,7 +18,7 @@ use Rattle.records.specs.declared.faults.TextFault.{TextFault}
 use Rattle.records.specs.declared.faults.TextFault.the-variants.{NoSize, UnknownLetter, WrongShape, NoNumber, SizeAgain}
 use Rattle.records.specs.declared.Record.{Record}
 use Rattle.records.specs.declared.Size.{Size}
-use Rattle.records.specs.Rendering.{sizeNumbers, sizeText, numbersOf, recordText, fileText, Small, AllSmall}
+use Rattle.records.specs.Rendering.{letter-n, letter-e, letter-h, letter-w, sizeNumbers, sizeText, numbersOf, recordText, fileText, Small, AllSmall}
 
 -- A line says a size, or a record, when it is finished and is how that is written.
 pub record SaysSize (l : Text) (s : Size) : Type 0 where
@@ -49,15 +49,16 @@ pub record HasNumbers (l : Text) (ns : List ℕ) : Type 0 where
   pub fields : behind l ≡ map decimal ns
   pub small : Small ns
 
--- how many numbers follow each letter: n on the first line; e, h and w on the others
+-- how many numbers should follow a first field, if it is a letter that may stand there: n on the first line; e, h and w on
+-- the others
 abbrev pub sizeLetter : List ℕ → Option ℕ
 sizeLetter [] = None
-sizeLetter (c ∷ []) = cond (eqb c 110) (Some 2) None
+sizeLetter (c ∷ []) = cond (eqb c letter-n) (Some 2) None
 sizeLetter (c ∷ (d ∷ ds)) = None
 
 abbrev pub recordLetter : List ℕ → Option ℕ
 recordLetter [] = None
-recordLetter (c ∷ []) = cond (eqb c 101) (Some 2) (cond (eqb c 104) (Some 2) (cond (eqb c 119) (Some 3) None))
+recordLetter (c ∷ []) = cond (eqb c letter-e) (Some 2) (cond (eqb c letter-h) (Some 2) (cond (eqb c letter-w) (Some 3) None))
 recordLetter (c ∷ (d ∷ ds)) = None
 
 -- The line is unfinished or has other than k fields behind the first.
@@ -83,7 +84,7 @@ NumbersFault k n l (WrongShape line) = (line ≡ n) × Misshapen k l
 NumbersFault k n l (NoNumber line i) = (line ≡ n) × BadField k l i
 NumbersFault k n l (SizeAgain line) = ⊥
 
--- the faults of a file's first line
+-- the faults of a file's first line, by how many numbers should follow its first field
 abbrev pub SizeFaultBy : Option ℕ → Text → TextFault → Type 0
 SizeFaultBy None l f = f ≡ NoSize
 SizeFaultBy (Some k) l f = NumbersFault k 1 l f
@@ -91,9 +92,9 @@ SizeFaultBy (Some k) l f = NumbersFault k 1 l f
 abbrev pub SizeFault : Text → TextFault → Type 0
 SizeFault l f = SizeFaultBy (sizeLetter (firstField l)) l f
 
--- the faults of a later line, the n-th of the file
+-- the faults of a later line, the n-th of the file, by the same
 abbrev pub RecordFaultBy : Option ℕ → ℕ → Text → TextFault → Type 0
-RecordFaultBy None n l f = ((firstField l ≡ 110 ∷ []) × (f ≡ SizeAgain n)) ⊎ ((firstField l ≡ 110 ∷ [] → ⊥) × (f ≡ UnknownLetter n))
+RecordFaultBy None n l f = ((firstField l ≡ letter-n ∷ []) × (f ≡ SizeAgain n)) ⊎ ((firstField l ≡ letter-n ∷ [] → ⊥) × (f ≡ UnknownLetter n))
 RecordFaultBy (Some k) n l f = NumbersFault k n l f
 
 abbrev pub RecordFault : ℕ → Text → TextFault → Type 0

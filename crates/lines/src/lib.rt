@@ -25,7 +25,9 @@ pub struct Line<'a> {
 /// The lines of a lent file that are still to come.
 #[derive(Drop)]
 pub struct Lines<'a> {
+    // what follows the lines that were handed out
     rest: &'a [u8],
+    // how many were
     passed: usize,
     ghost counted: { passed + length (rest .now) < 2 ^ 63 },
 }
@@ -41,7 +43,9 @@ pub struct Field<'a> {
 /// The fields of a line that are still to come.
 #[derive(Drop)]
 pub struct Fields<'a> {
+    // what follows the fields that were handed out, if any does
     rest: Option<&'a [u8]>,
+    // how many were
     passed: usize,
     ghost counted: { passed + atMost text rest < 2 ^ 64 },
 }

@@ -7,6 +7,19 @@ use Rattle.records.specs.declared.Record.{Record}
 use Rattle.records.specs.declared.Record.the-variants.{Entry, Home, Way}
 use Rattle.records.specs.declared.Size.{Size}
 
+-- the letters that lines begin with: n for the size, e for an entry, h for home, w for a way
+abbrev pub letter-n : ℕ
+letter-n = 110
+
+abbrev pub letter-e : ℕ
+letter-e = 101
+
+abbrev pub letter-h : ℕ
+letter-h = 104
+
+abbrev pub letter-w : ℕ
+letter-w = 119
+
 -- each number behind a byte 9
 abbrev pub numbersText : List ℕ → List ℕ
 numbersText [] = []
@@ -21,13 +34,12 @@ abbrev pub sizeNumbers : Size → List ℕ
 sizeNumbers s = s .channels ∷ (s .places ∷ [])
 
 abbrev pub sizeText : Size → List ℕ
-sizeText s = lineText 110 (sizeNumbers s)
+sizeText s = lineText letter-n (sizeNumbers s)
 
--- the letters e, h and w
 abbrev pub letterOf : Record → ℕ
-letterOf (Entry c d) = 101
-letterOf (Home c d) = 104
-letterOf (Way c d h) = 119
+letterOf (Entry c d) = letter-e
+letterOf (Home c d) = letter-h
+letterOf (Way c d h) = letter-w
 
 abbrev pub numbersOf : Record → List ℕ
 numbersOf (Entry c d) = c ∷ (d ∷ [])

@@ -6,7 +6,7 @@ ghost use Prim.Native.Nat.{ℕ, _+_, _<_, _≤_};
 ghost use lib.ListN.{length, take, drop};
 ghost use Rattle.std.specs.Orderings.{Decides};
 ghost use Rattle.std.specs.Written.{decimal};
-ghost use Rattle.records.specs.Rendering.{finished, lineText, numbersText, sizeNumbers, letterOf, numbersOf, Small};
+ghost use Rattle.records.specs.Rendering.{finished, letter-n, lineText, numbersText, sizeNumbers, letterOf, numbersOf, Small};
 ghost use Rattle.records.specs.Writes.{Wrote, WritesLine};
 use crate::Record;
 use crate::Size;
@@ -101,7 +101,7 @@ fn write_line(letter: u8, numbers: &[u16], out: &mut [u8], at: usize) -> Result<
 impl Size {
     /// Writes its line into `out` from `at` on, and answers where the line ends. A refusal writes nothing.
     pub fn write(self, out: &mut [u8], at: usize) -> Result<usize, WriteFault>
-        ensures { λ r. ⌜ WritesLine 110 (sizeNumbers self) at (now (out .entry)) r (now (out .exit)) ⌝ }
+        ensures { λ r. ⌜ WritesLine letter-n (sizeNumbers self) at (now (out .entry)) r (now (out .exit)) ⌝ }
     {
         write_line(b'n', &[self.channels, self.places], out, at)
     }
