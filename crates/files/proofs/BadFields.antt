@@ -17,11 +17,12 @@ module _ (n i : ℕ) (l : Text) (f : TextFault) (fin : l .1 ≡ true) (is : f �
   at-field fs at e h place bad before =
       rw is (refl, record { finished = fin; count = ap length e; at = at; field = place; there = h; bad = rw e bad; before = rw e before })
 
-  pub second-bad : (a b : List ℕ) → behind l ≡ a ∷ (b ∷ []) → i ≡ 3 → Spelled a → (Spelled b → ⊥) → NumbersFault 2 n l f
-  second-bad a b e place good bad = at-field (a ∷ (b ∷ [])) 1 e (omega arith) place bad (below-more (λ j. Spelled (getD (a ∷ (b ∷ [])) j [])) 0 (below-none (λ j. Spelled (getD (a ∷ (b ∷ [])) j []))) good)
+  pub second-bad : (a b : List ℕ) (ds : List (List ℕ)) → behind l ≡ a ∷ (b ∷ ds) → i ≡ 3 → Spelled a → (Spelled b → ⊥) → NumbersFault (length (a ∷ (b ∷ ds))) n l f
+  second-bad a b ds e place good bad =
+      let P : ℕ → Type 0 = λ j. Spelled (getD (a ∷ (b ∷ ds)) j []) in
+      at-field (a ∷ (b ∷ ds)) 1 e (omega arith) place bad (below-more P 0 (below-none P) good)
 
-  pub second-of-three : (a b d : List ℕ) → behind l ≡ a ∷ (b ∷ (d ∷ [])) → i ≡ 3 → Spelled a → (Spelled b → ⊥) → NumbersFault 3 n l f
-  second-of-three a b d e place good bad = at-field (a ∷ (b ∷ (d ∷ []))) 1 e (omega arith) place bad (below-more (λ j. Spelled (getD (a ∷ (b ∷ (d ∷ []))) j [])) 0 (below-none (λ j. Spelled (getD (a ∷ (b ∷ (d ∷ []))) j []))) good)
-
-  pub third-bad : (a b d : List ℕ) → behind l ≡ a ∷ (b ∷ (d ∷ [])) → i ≡ 4 → Spelled a → Spelled b → (Spelled d → ⊥) → NumbersFault 3 n l f
-  third-bad a b d e place good more bad = at-field (a ∷ (b ∷ (d ∷ []))) 2 e (omega arith) place bad (below-more (λ j. Spelled (getD (a ∷ (b ∷ (d ∷ []))) j [])) 1 (below-more (λ j. Spelled (getD (a ∷ (b ∷ (d ∷ []))) j [])) 0 (below-none (λ j. Spelled (getD (a ∷ (b ∷ (d ∷ []))) j []))) good) more)
+  pub third-bad : (a b d : List ℕ) (ds : List (List ℕ)) → behind l ≡ a ∷ (b ∷ (d ∷ ds)) → i ≡ 4 → Spelled a → Spelled b → (Spelled d → ⊥) → NumbersFault (length (a ∷ (b ∷ (d ∷ ds)))) n l f
+  third-bad a b d ds e place good more bad =
+      let P : ℕ → Type 0 = λ j. Spelled (getD (a ∷ (b ∷ (d ∷ ds))) j []) in
+      at-field (a ∷ (b ∷ (d ∷ ds))) 2 e (omega arith) place bad (below-more P 1 (below-more P 0 (below-none P) good) more)

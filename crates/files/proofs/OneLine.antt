@@ -61,6 +61,10 @@ pub fields-written : (letter : ℕ) (ns : List ℕ) → (letter ≡ 9 → ⊥) �
 fields-written letter ns ne h =
     ap fieldsOf (sym (line-of-numbers (letter ∷ []) ns)) ∙ fields-back ((letter ∷ []) ∷ map decimal ns) (omega arith) ((ne, tt), apart-numbers ns h)
 
+shaped : (l : Text) (k : ℕ) → Misshapen k l → l .1 ≡ true → length (behind l) ≡ k → ⊥
+shaped l k (inl u) fin c = let z : _≡_ {A = ℕ} 0 1 = cc in omega arith
+shaped l k (inr u) fin c = u c
+
 -- such a line has none of the faults of its numbers
 no-numbers-fault : (l : Text) (letter k n : ℕ) (ns : List ℕ) (f : TextFault) → l .1 ≡ true → fieldsOf (l .0) ≡ (letter ∷ []) ∷ map decimal ns → Small ns → k ≡ length ns → NumbersFault k n l f → ⊥
 no-numbers-fault l letter k n ns NoSize fin e h c x = x
@@ -68,7 +72,7 @@ no-numbers-fault l letter k n ns (UnknownLetter m) fin e h c x = x
 no-numbers-fault l letter k n ns (SizeAgain m) fin e h c x = x
 no-numbers-fault l letter k n ns (WrongShape m) fin e h c x =
     let b : behind l ≡ map decimal ns = ap (drop 1) e in
-    elim (x .1) [ inl u ↦ (let z : _≡_ {A = ℕ} 0 1 = cc in omega arith) | inr u ↦ u (ap length b ∙ length-map ns decimal ∙ sym c) ]
+    shaped l k (x .1) fin (ap length b ∙ length-map ns decimal ∙ sym c)
 no-numbers-fault l letter k n ns (NoNumber m i) fin e h c x =
     let b : behind l ≡ map decimal ns = ap (drop 1) e in
     let y = x .1 in
@@ -83,19 +87,11 @@ numbers-fault-one l k n (WrongShape m) NoSize x y = absurd y
 numbers-fault-one l k n (WrongShape m) (UnknownLetter o) x y = absurd y
 numbers-fault-one l k n (WrongShape m) (SizeAgain o) x y = absurd y
 numbers-fault-one l k n (WrongShape m) (WrongShape o) x y = ap WrongShape (x .0 ∙ sym (y .0))
-numbers-fault-one l k n (WrongShape m) (NoNumber o j) x y = absurd (shapes (x .1) (y .1 .finished) (y .1 .count))
-  where
-    shapes : Misshapen k l → l .1 ≡ true → length (behind l) ≡ k → ⊥
-    shapes (inl u) fin c = let z : _≡_ {A = ℕ} 0 1 = cc in omega arith
-    shapes (inr u) fin c = u c
+numbers-fault-one l k n (WrongShape m) (NoNumber o j) x y = absurd (shaped l k (x .1) (y .1 .finished) (y .1 .count))
 numbers-fault-one l k n (NoNumber m i) NoSize x y = absurd y
 numbers-fault-one l k n (NoNumber m i) (UnknownLetter o) x y = absurd y
 numbers-fault-one l k n (NoNumber m i) (SizeAgain o) x y = absurd y
-numbers-fault-one l k n (NoNumber m i) (WrongShape o) x y = absurd (shapes (y .1) (x .1 .finished) (x .1 .count))
-  where
-    shapes : Misshapen k l → l .1 ≡ true → length (behind l) ≡ k → ⊥
-    shapes (inl u) fin c = let z : _≡_ {A = ℕ} 0 1 = cc in omega arith
-    shapes (inr u) fin c = u c
+numbers-fault-one l k n (NoNumber m i) (WrongShape o) x y = absurd (shaped l k (y .1) (x .1 .finished) (x .1 .count))
 numbers-fault-one l k n (NoNumber m i) (NoNumber o j) x y = go (x .1) (y .1)
   where
     go : BadField k l i → BadField k l j → NoNumber m i ≡ NoNumber o j
