@@ -7,12 +7,12 @@ use mathlib.Core.List.{List, [], _∷_}
 use mathlib.Core.Bool.{true}
 use lib.ListN.{length, getD}
 use Rattle.lines.specs.Numbers.{Spelled}
-use Rattle.lines.specs.Pieces.{Text}
+use Rattle.lines.specs.Pieces.{RawLine}
 use Rattle.records.specs.declared.faults.TextFault.{TextFault}
 use Rattle.records.specs.declared.faults.TextFault.the-variants.{NoNumber}
 use Rattle.files.specs.Says.{behind, NumbersFault}
 
-module _ (n i : ℕ) (l : Text) (f : TextFault) (fin : l .1 ≡ true) (is : f ≡ NoNumber n i) where
+module _ (n i : ℕ) (l : RawLine) (f : TextFault) (fin : l .1 ≡ true) (is : f ≡ NoNumber n i) where
   at-field : (fs : List (List ℕ)) (at : ℕ) → behind l ≡ fs → at < length fs → i ≡ at + 2 → (Spelled (getD fs at []) → ⊥) → ((j : ℕ) → j < at → Spelled (getD fs j [])) → NumbersFault (length fs) n l f
   at-field fs at e h place bad before =
       rw is (refl, record { finished = fin; count = ap length e; at = at; field = place; there = h; bad = rw e bad; before = rw e before })

@@ -10,7 +10,7 @@ use Rattle.std.specs.declared.option.Option.the-variants.{Some, None}
 use Rattle.std.specs.declared.result.Result.{Result}
 use Rattle.std.specs.declared.result.Result.the-variants.{Ok, Err}
 use Rattle.std.specs.Joined.{joined}
-use Rattle.lines.specs.Pieces.{Text, linesOf, fileOf, ending}
+use Rattle.lines.specs.Pieces.{RawLine, linesOf, fileOf, ending}
 use Rattle.lines.proofs.Laws.{lined}
 use Rattle.records.specs.declared.faults.TextFault.{TextFault}
 use Rattle.records.specs.declared.Record.{Record}
@@ -26,14 +26,14 @@ use Rattle.files.proofs.OneAnswer.{reads-or-fault}
 use Rattle.records.proofs.Texts.{wrote-front, wrote-then, drop-later}
 
 -- What the lines so far say is written; the first of them ended at `first`.
-pub record Copying (file : List ℕ) (passed : ℕ) (left : List Text) (old new : List ℕ) (first end : ℕ) : Type 0 where
+pub record Copying (file : List ℕ) (passed : ℕ) (left : List RawLine) (old new : List ℕ) (first end : ℕ) : Type 0 where
   pub size : Size
   pub count : ℕ
   pub upto : Upto file size count passed left
   pub later : first ≤ end
   pub wrote : Wrote (fileText size (upto .rs)) 0 old new end
 
-files-append : (ls ms : List Text) → fileOf (ls ++ ms) ≡ fileOf ls ++ fileOf ms
+files-append : (ls ms : List RawLine) → fileOf (ls ++ ms) ≡ fileOf ls ++ fileOf ms
 files-append [] ms = refl
 files-append (l ∷ ls) ms =
     let e = files-append ls ms in
@@ -42,7 +42,7 @@ files-append (l ∷ ls) ms =
     cc
 
 -- the text of what was read so far, and that of the lines to come
-so-far : (file : List ℕ) (s : Size) (n passed : ℕ) (left : List Text) (u : Upto file s n passed left) → file ≡ fileText s (u .rs) ++ fileOf left
+so-far : (file : List ℕ) (s : Size) (n passed : ℕ) (left : List RawLine) (u : Upto file s n passed left) → file ≡ fileText s (u .rs) ++ fileOf left
 so-far file s n passed left u =
     let a : file ≡ fileOf (u .head ∷ (u .good ++ left)) = sym (lined file .joined) ∙ ap fileOf (u .lines) in
     let b : fileOf (u .head ∷ (u .good ++ left)) ≡ sizeText s ++ ((10 ∷ []) ++ fileOf (u .good ++ left)) = ap (λ k. fileOf (k ∷ (u .good ++ left))) (u .size .text) in
@@ -57,12 +57,12 @@ pub surely : (letter : ℕ) (ns : List ℕ) (at : ℕ) (old new : List ℕ) (x :
 surely letter ns at old new LargeNumber s h w = w .0 s
 surely letter ns at old new NoRoom s h w = let l = w .1 in omega arith
 
-size-alone : (file : List ℕ) (s : Size) (passed : ℕ) (left : List Text) (u : Upto file s 0 passed left) → fileText s (u .rs) ≡ finished (sizeText s)
+size-alone : (file : List ℕ) (s : Size) (passed : ℕ) (left : List RawLine) (u : Upto file s 0 passed left) → fileText s (u .rs) ≡ finished (sizeText s)
 size-alone file s passed left u =
     let e = nil-from-length (u .rs) (sym (u .count)) in
     ap (fileText s) e ∙ append-nil (finished (sizeText s))
 
-module _ (file : List ℕ) (s : Size) (passed : ℕ) (left : List Text) (says : FirstSays (linesOf file) (Ok s)) (rest : left ≡ drop 1 (linesOf file)) (count : passed + length left ≡ length (linesOf file)) where
+module _ (file : List ℕ) (s : Size) (passed : ℕ) (left : List RawLine) (says : FirstSays (linesOf file) (Ok s)) (rest : left ≡ drop 1 (linesOf file)) (count : passed + length left ≡ length (linesOf file)) where
   pub size-room : length (finished (sizeText s)) ≤ length file
   size-room =
       let u = begins file s passed left says rest count in
@@ -89,7 +89,7 @@ module _ (file : List ℕ) (s : Size) (passed : ℕ) (left : List Text) (says : 
         wrote = record { ends = let x = w .ends in let y = ap length e in omega arith; fits = let f = w .fits in omega arith; bytes = cc };
       }
 
-module _ (file : List ℕ) (passed m : ℕ) (left rest : List Text) (old new : List ℕ) (first end : ℕ) (c : Copying file passed left old new first end) where
+module _ (file : List ℕ) (passed m : ℕ) (left rest : List RawLine) (old new : List ℕ) (first end : ℕ) (c : Copying file passed left old new first end) where
   pub record-room : (r : Record) → NextSays passed left (Ok (Some r)) m rest → end + length (finished (recordText r)) ≤ length file
   record-room r h =
       let a = ap length (so-far file (c .size) (c .count) passed left (c .upto)) in

@@ -10,7 +10,7 @@ use Rattle.std.specs.declared.option.Option.the-variants.{Some, None}
 use Rattle.std.specs.declared.result.Result.{Result}
 use Rattle.std.specs.declared.result.Result.the-variants.{Ok, Err}
 use Rattle.std.specs.Joined.{joined}
-use Rattle.lines.specs.Pieces.{Text, linesOf, fileOf}
+use Rattle.lines.specs.Pieces.{RawLine, linesOf, fileOf}
 use Rattle.lines.proofs.Laws.{lined}
 use Rattle.records.specs.declared.faults.TextFault.{TextFault}
 use Rattle.records.specs.declared.faults.TextFault.the-variants.{NoSize}
@@ -22,9 +22,9 @@ use Rattle.records.specs.Rendering.{sizeText, recordText, finished, fileText, A
 use Rattle.files.specs.Says.{SaysSize, SaysRecord, SayRecords, FirstSays, NextSays, FileFault, empty, first, later, Reads}
 
 -- The lines read so far say the size and n records; `left` are to come.
-pub record Upto (file : List ℕ) (s : Size) (n passed : ℕ) (left : List Text) : Type 0 where
-  pub head : Text
-  pub good : List Text
+pub record Upto (file : List ℕ) (s : Size) (n passed : ℕ) (left : List RawLine) : Type 0 where
+  pub head : RawLine
+  pub good : List RawLine
   pub rs : List Record
   pub lines : linesOf file ≡ head ∷ (good ++ left)
   pub size : SaysSize head s
@@ -32,28 +32,28 @@ pub record Upto (file : List ℕ) (s : Size) (n passed : ℕ) (left : List Text)
   pub count : n ≡ length rs
   pub place : passed ≡ length good + 1
 
-pub say-same-length : (ls : List Text) (rs : List Record) → SayRecords ls rs → length rs ≡ length ls
+pub say-same-length : (ls : List RawLine) (rs : List Record) → SayRecords ls rs → length rs ≡ length ls
 say-same-length [] [] h = refl
 say-same-length [] (r ∷ rs) h = absurd h
 say-same-length (l ∷ ls) [] h = absurd h
 say-same-length (l ∷ ls) (r ∷ rs) h = let e = say-same-length ls rs (h .1) in omega arith
 
-pub say-more : (ls : List Text) (rs : List Record) (l : Text) (r : Record) → SayRecords ls rs → SaysRecord l r → SayRecords (ls ++ (l ∷ [])) (rs ++ (r ∷ []))
+pub say-more : (ls : List RawLine) (rs : List Record) (l : RawLine) (r : Record) → SayRecords ls rs → SaysRecord l r → SayRecords (ls ++ (l ∷ [])) (rs ++ (r ∷ []))
 say-more [] [] l r h s = (s, tt)
 say-more [] (q ∷ qs) l r h s = absurd h
 say-more (k ∷ ks) [] l r h s = absurd h
 say-more (k ∷ ks) (q ∷ qs) l r h s = (h .0, say-more ks qs l r (h .1) s)
 
-pub begins : (file : List ℕ) (s : Size) (passed : ℕ) (left : List Text) → FirstSays (linesOf file) (Ok s) → left ≡ drop 1 (linesOf file) → passed + length left ≡ length (linesOf file) → Upto file s 0 passed left
+pub begins : (file : List ℕ) (s : Size) (passed : ℕ) (left : List RawLine) → FirstSays (linesOf file) (Ok s) → left ≡ drop 1 (linesOf file) → passed + length left ≡ length (linesOf file) → Upto file s 0 passed left
 begins file s passed left f e h = go (linesOf file) refl f e h
   where
-    go : (ls : List Text) → linesOf file ≡ ls → FirstSays ls (Ok s) → left ≡ drop 1 ls → passed + length left ≡ length ls → Upto file s 0 passed left
+    go : (ls : List RawLine) → linesOf file ≡ ls → FirstSays ls (Ok s) → left ≡ drop 1 ls → passed + length left ≡ length ls → Upto file s 0 passed left
     go [] is f e h = let z : _≡_ {A = ℕ} 0 1 = cc in absurd (omega arith)
     go (l ∷ ls) is f e h = record { head = l; good = []; rs = []; lines = cc; size = f; say = tt; count = refl; place = let x = ap length e in omega arith }
 
-unfoldable pub goes-on : (file : List ℕ) (s : Size) (n passed m : ℕ) (left rest : List Text) (r : Record) → Upto file s n passed left → NextSays passed left (Ok (Some r)) m rest → Upto file s (n + 1) m rest
+unfoldable pub goes-on : (file : List ℕ) (s : Size) (n passed m : ℕ) (left rest : List RawLine) (r : Record) → Upto file s n passed left → NextSays passed left (Ok (Some r)) m rest → Upto file s (n + 1) m rest
 goes-on file s n passed m left rest r u h =
-    let l : Text = h .0 in
+    let l : RawLine = h .0 in
     let a = append-assoc (u .good) (l ∷ []) rest in
     let e = u .lines in
     let i = h .1 in
@@ -73,11 +73,11 @@ goes-on file s n passed m left rest r u h =
 pub size-fault : (file : List ℕ) (f : TextFault) → FirstSays (linesOf file) (Err f) → FileFault file f
 size-fault file f h = go (linesOf file) refl h
   where
-    go : (ls : List Text) → linesOf file ≡ ls → FirstSays ls (Err f) → FileFault file f
+    go : (ls : List RawLine) → linesOf file ≡ ls → FirstSays ls (Err f) → FileFault file f
     go [] is h = empty is (cc)
     go (l ∷ ls) is h = first l ls is h
 
-pub record-fault : (file : List ℕ) (s : Size) (n passed m : ℕ) (left rest : List Text) (f : TextFault) → Upto file s n passed left → NextSays passed left (Err f) m rest → FileFault file f
+pub record-fault : (file : List ℕ) (s : Size) (n passed m : ℕ) (left rest : List RawLine) (f : TextFault) → Upto file s n passed left → NextSays passed left (Err f) m rest → FileFault file f
 record-fault file s n passed m left rest f u h =
     let e = u .lines in
     let i = h .1 in
@@ -85,7 +85,7 @@ record-fault file s n passed m left rest f u h =
     later (u .head) (h .0) (u .good) rest s (u .rs) (cc) (u .size) (u .say) (rw p at (h .2))
 
 -- lines that say records make up the text of these
-pub text-of : (ls : List Text) (rs : List Record) → SayRecords ls rs → fileOf ls ≡ joined (λ r. finished (recordText r)) rs
+pub text-of : (ls : List RawLine) (rs : List Record) → SayRecords ls rs → fileOf ls ≡ joined (λ r. finished (recordText r)) rs
 text-of [] [] h = refl
 text-of [] (r ∷ rs) h = absurd h
 text-of (l ∷ ls) [] h = absurd h
@@ -96,13 +96,13 @@ text-of (l ∷ ls) (r ∷ rs) h =
     let b : fileOf (l ∷ ls) ≡ recordText r ++ ((10 ∷ []) ++ fileOf ls) = ap (λ k. fileOf (k ∷ ls)) t in
     cc
 
-small-of : (ls : List Text) (rs : List Record) → SayRecords ls rs → AllSmall rs
+small-of : (ls : List RawLine) (rs : List Record) → SayRecords ls rs → AllSmall rs
 small-of [] [] h = tt
 small-of [] (r ∷ rs) h = absurd h
 small-of (l ∷ ls) [] h = absurd h
 small-of (l ∷ ls) (r ∷ rs) h = (h .0 .small, small-of ls rs (h .1))
 
-pub all-read : (file : List ℕ) (s : Size) (n passed m : ℕ) (left rest : List Text) (u : Upto file s n passed left) → NextSays passed left (Ok None) m rest → Reads file s (u .rs)
+pub all-read : (file : List ℕ) (s : Size) (n passed m : ℕ) (left rest : List RawLine) (u : Upto file s n passed left) → NextSays passed left (Ok None) m rest → Reads file s (u .rs)
 all-read file s n passed m left rest u h =
     let e = u .lines in
     let z = h .0 in

@@ -9,7 +9,7 @@ use Rattle.std.proofs.shelf.Lists.{append-assoc}
 use Rattle.std.specs.declared.result.Result.{Result}
 use Rattle.std.specs.declared.result.Result.the-variants.{Ok, Err}
 use Rattle.std.specs.Joined.{joined}
-use Rattle.lines.specs.Pieces.{Text, Lacks, linesOf}
+use Rattle.lines.specs.Pieces.{RawLine, Lacks, linesOf}
 use Rattle.lines.proofs.Laws.{lines-finished}
 use Rattle.records.specs.declared.faults.TextFault.{TextFault}
 use Rattle.files.specs.declared.judging.Summary.{Summary}
@@ -35,7 +35,7 @@ line-written : (line rest : List ℕ) → Lacks 10 line → linesOf (finished li
 line-written line rest h = ap linesOf (append-assoc line (10 ∷ []) rest) ∙ lines-finished line rest h
 
 -- the lines of records as they are written
-abbrev rows : List Record → List Text
+abbrev rows : List Record → List RawLine
 rows rs = map (λ r. (recordText r, true)) rs
 
 rows-say : (rs : List Record) → AllSmall rs → SayRecords (rows rs) rs
@@ -54,7 +54,7 @@ lines-read file s rs h =
 size-read : (file : List ℕ) (s : Size) (rs : List Record) → Reads file s rs → SaysSize (sizeText s, true) s
 size-read file s rs h = record { text = refl; small = h .size-small }
 
-say-one : (ls : List Text) (rs qs : List Record) → SayRecords ls rs → SayRecords ls qs → rs ≡ qs
+say-one : (ls : List RawLine) (rs qs : List Record) → SayRecords ls rs → SayRecords ls qs → rs ≡ qs
 say-one [] [] [] h k = refl
 say-one [] [] (q ∷ qs) h k = absurd k
 say-one [] (r ∷ rs) qs h k = absurd h
@@ -66,14 +66,14 @@ reads-one : (file : List ℕ) (s t : Size) (rs qs : List Record) → Reads file 
 reads-one file s t rs qs h k =
     let a = lines-read file s rs h in
     let b = lines-read file t qs k in
-    let e : _≡_ {A = Text} (sizeText s, true) (sizeText t, true) = cc in
+    let e : _≡_ {A = RawLine} (sizeText s, true) (sizeText t, true) = cc in
     let d : rows rs ≡ rows qs = cc in (
       size-one (sizeText s, true) s t (size-read file s rs h) (rw e (size-read file t qs k)),
       say-one (rows rs) rs qs (rows-say rs (h .small)) (rw d (rows-say qs (k .small))),
     )
 
 -- no line of those that say records has a fault
-no-bad-row : (n : ℕ) (ls good rest : List Text) (bad : Text) (rs : List Record) (f : TextFault) → SayRecords ls rs → ls ≡ good ++ (bad ∷ rest) → RecordFault n bad f → ⊥
+no-bad-row : (n : ℕ) (ls good rest : List RawLine) (bad : RawLine) (rs : List Record) (f : TextFault) → SayRecords ls rs → ls ≡ good ++ (bad ∷ rest) → RecordFault n bad f → ⊥
 no-bad-row n [] [] rest bad rs f h e x = let z : _≡_ {A = ℕ} 0 1 = cc in omega arith
 no-bad-row n [] (g ∷ good) rest bad rs f h e x = let z : _≡_ {A = ℕ} 0 1 = cc in omega arith
 no-bad-row n (l ∷ ls) good rest bad [] f h e x = h
@@ -92,7 +92,7 @@ reads-or-fault file s rs f h (later l bad good rest t qs e k m x) =
     no-bad-row (length good + 2) (rows rs) good rest bad rs f (rows-say rs (h .small)) i x
 
 -- the first faulty line is one, and so is its fault
-first-bad-one : (n : ℕ) (good good′ rest rest′ : List Text) (bad bad′ : Text) (rs rs′ : List Record) (f g : TextFault) → good ++ (bad ∷ rest) ≡ good′ ++ (bad′ ∷ rest′) → SayRecords good rs → SayRecords good′ rs′ → RecordFault (length good + n) bad f → RecordFault (length good′ + n) bad′ g → f ≡ g
+first-bad-one : (n : ℕ) (good good′ rest rest′ : List RawLine) (bad bad′ : RawLine) (rs rs′ : List Record) (f g : TextFault) → good ++ (bad ∷ rest) ≡ good′ ++ (bad′ ∷ rest′) → SayRecords good rs → SayRecords good′ rs′ → RecordFault (length good + n) bad f → RecordFault (length good′ + n) bad′ g → f ≡ g
 first-bad-one n [] [] rest rest′ bad bad′ rs rs′ f g e h h′ x y = let i : bad ≡ bad′ = cc in record-fault-one (0 + n) bad′ f g (rw i at x) y
 first-bad-one n [] (b ∷ good′) rest rest′ bad bad′ rs [] f g e h h′ x y = absurd h′
 first-bad-one n [] (b ∷ good′) rest rest′ bad bad′ rs (r ∷ rs′) f g e h h′ x y = let i : bad ≡ b = cc in absurd (record-or-fault (0 + n) b r f (h′ .0) (rw i at x))

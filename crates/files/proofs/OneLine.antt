@@ -12,7 +12,7 @@ use Rattle.std.specs.declared.option.Option.{Option}
 use Rattle.std.specs.declared.option.Option.the-variants.{Some, None}
 use Rattle.std.specs.Written.{decimal}
 use Rattle.lines.specs.Numbers.{Spelled}
-use Rattle.lines.specs.Pieces.{Text, Lacks, fieldsOf, lineOf, Apart}
+use Rattle.lines.specs.Pieces.{RawLine, Lacks, fieldsOf, lineOf, Apart}
 use Rattle.lines.proofs.Laws.{fields-back}
 use Rattle.lines.proofs.Numerals.{decimal-spelled, spells-one}
 use Rattle.records.specs.declared.faults.TextFault.{TextFault}
@@ -61,12 +61,12 @@ pub fields-written : (letter : ℕ) (ns : List ℕ) → (letter ≡ 9 → ⊥) �
 fields-written letter ns ne h =
     ap fieldsOf (sym (line-of-numbers (letter ∷ []) ns)) ∙ fields-back ((letter ∷ []) ∷ map decimal ns) (omega arith) ((ne, tt), apart-numbers ns h)
 
-shaped : (l : Text) (k : ℕ) → Misshapen k l → l .1 ≡ true → length (behind l) ≡ k → ⊥
+shaped : (l : RawLine) (k : ℕ) → Misshapen k l → l .1 ≡ true → length (behind l) ≡ k → ⊥
 shaped l k (inl u) fin c = let z : _≡_ {A = ℕ} 0 1 = cc in omega arith
 shaped l k (inr u) fin c = u c
 
 -- such a line has none of the faults of its numbers
-no-numbers-fault : (l : Text) (letter k n : ℕ) (ns : List ℕ) (f : TextFault) → l .1 ≡ true → fieldsOf (l .0) ≡ (letter ∷ []) ∷ map decimal ns → Small ns → k ≡ length ns → NumbersFault k n l f → ⊥
+no-numbers-fault : (l : RawLine) (letter k n : ℕ) (ns : List ℕ) (f : TextFault) → l .1 ≡ true → fieldsOf (l .0) ≡ (letter ∷ []) ∷ map decimal ns → Small ns → k ≡ length ns → NumbersFault k n l f → ⊥
 no-numbers-fault l letter k n ns NoSize fin e h c x = x
 no-numbers-fault l letter k n ns (UnknownLetter m) fin e h c x = x
 no-numbers-fault l letter k n ns (SizeAgain m) fin e h c x = x
@@ -79,7 +79,7 @@ no-numbers-fault l letter k n ns (NoNumber m i) fin e h c x =
     let t = y .there in
     y .bad (rw b (spelled-numbers ns h (y .at) (omega arith)))
 
-numbers-fault-one : (l : Text) (k n : ℕ) (f g : TextFault) → NumbersFault k n l f → NumbersFault k n l g → f ≡ g
+numbers-fault-one : (l : RawLine) (k n : ℕ) (f g : TextFault) → NumbersFault k n l f → NumbersFault k n l g → f ≡ g
 numbers-fault-one l k n NoSize g x y = absurd x
 numbers-fault-one l k n (UnknownLetter m) g x y = absurd x
 numbers-fault-one l k n (SizeAgain m) g x y = absurd x
@@ -103,16 +103,16 @@ numbers-fault-one l k n (NoNumber m i) (NoNumber o j) x y = go (x .1) (y .1)
         same (inr (inr h)) = absurd (b .bad (a .before (b .at) h))
 
 -- the first line
-size-fields : (l : Text) (s : Size) → SaysSize l s → fieldsOf (l .0) ≡ (110 ∷ []) ∷ map decimal (sizeNumbers s)
+size-fields : (l : RawLine) (s : Size) → SaysSize l s → fieldsOf (l .0) ≡ (110 ∷ []) ∷ map decimal (sizeNumbers s)
 size-fields l s h = ap (λ t. fieldsOf (t .0)) (h .text) ∙ fields-written 110 (sizeNumbers s) (λ e. omega arith) (h .small)
 
-pub size-or-fault : (l : Text) (s : Size) (f : TextFault) → SaysSize l s → SizeFault l f → ⊥
+pub size-or-fault : (l : RawLine) (s : Size) (f : TextFault) → SaysSize l s → SizeFault l f → ⊥
 size-or-fault l s f h x =
     let e = size-fields l s h in
     let k : sizeLetter (firstField l) ≡ Some 2 = ap (λ fs. sizeLetter (getD fs 0 [])) e in
     no-numbers-fault l 110 2 1 (sizeNumbers s) f (ap (λ t. t .1) (h .text)) e (h .small) refl (subst (λ o. SizeFaultBy o l f) k x)
 
-pub size-one : (l : Text) (s t : Size) → SaysSize l s → SaysSize l t → s ≡ t
+pub size-one : (l : RawLine) (s t : Size) → SaysSize l s → SaysSize l t → s ≡ t
 size-one l s t h k =
     let a = size-fields l s h in
     let b = size-fields l t k in
@@ -125,11 +125,11 @@ size-one l s t h k =
         sizes : (a b c d : ℕ) → a ≡ c → b ≡ d → _≡_ {A = Size} (record { channels = a; places = b }) (record { channels = c; places = d })
         sizes a b c d p q = cc
 
-size-fault-by : (l : Text) (o : Option ℕ) (f g : TextFault) → SizeFaultBy o l f → SizeFaultBy o l g → f ≡ g
+size-fault-by : (l : RawLine) (o : Option ℕ) (f g : TextFault) → SizeFaultBy o l f → SizeFaultBy o l g → f ≡ g
 size-fault-by l None f g x y = x ∙ sym y
 size-fault-by l (Some k) f g x y = numbers-fault-one l k 1 f g x y
 
-pub size-fault-one : (l : Text) (f g : TextFault) → SizeFault l f → SizeFault l g → f ≡ g
+pub size-fault-one : (l : RawLine) (f g : TextFault) → SizeFault l f → SizeFault l g → f ≡ g
 size-fault-one l f g x y = size-fault-by l (sizeLetter (firstField l)) f g x y
 
 -- the later lines
@@ -143,10 +143,10 @@ known (Entry c d) = refl
 known (Home c d) = refl
 known (Way c d h) = refl
 
-record-fields : (l : Text) (r : Record) → SaysRecord l r → fieldsOf (l .0) ≡ (letterOf r ∷ []) ∷ map decimal (numbersOf r)
+record-fields : (l : RawLine) (r : Record) → SaysRecord l r → fieldsOf (l .0) ≡ (letterOf r ∷ []) ∷ map decimal (numbersOf r)
 record-fields l r h = ap (λ t. fieldsOf (t .0)) (h .text) ∙ fields-written (letterOf r) (numbersOf r) (no-tab r) (h .small)
 
-pub record-or-fault : (n : ℕ) (l : Text) (r : Record) (f : TextFault) → SaysRecord l r → RecordFault n l f → ⊥
+pub record-or-fault : (n : ℕ) (l : RawLine) (r : Record) (f : TextFault) → SaysRecord l r → RecordFault n l f → ⊥
 record-or-fault n l r f h x =
     let e = record-fields l r h in
     let k : recordLetter (firstField l) ≡ Some (length (numbersOf r)) = ap (λ fs. recordLetter (getD fs 0 [])) e ∙ known r in
@@ -163,7 +163,7 @@ same-record (Way a b f) (Entry c d) e h = absurd (omega arith)
 same-record (Way a b f) (Home c d) e h = absurd (omega arith)
 same-record (Way a b f) (Way c d g) e h = cc
 
-pub record-one : (l : Text) (r q : Record) → SaysRecord l r → SaysRecord l q → r ≡ q
+pub record-one : (l : RawLine) (r q : Record) → SaysRecord l r → SaysRecord l q → r ≡ q
 record-one l r q h k =
     let a = record-fields l r h in
     let b = record-fields l q k in
@@ -171,12 +171,12 @@ record-one l r q h k =
     let d : letterOf r ≡ letterOf q = cc in
     same-record r q d (same-numbers (numbersOf r) (numbersOf q) (h .small) (k .small) e)
 
-record-fault-by : (n : ℕ) (l : Text) (o : Option ℕ) (f g : TextFault) → RecordFaultBy o n l f → RecordFaultBy o n l g → f ≡ g
+record-fault-by : (n : ℕ) (l : RawLine) (o : Option ℕ) (f g : TextFault) → RecordFaultBy o n l f → RecordFaultBy o n l g → f ≡ g
 record-fault-by n l None f g (inl x) (inl y) = x .1 ∙ sym (y .1)
 record-fault-by n l None f g (inl x) (inr y) = absurd (y .0 (x .0))
 record-fault-by n l None f g (inr x) (inl y) = absurd (x .0 (y .0))
 record-fault-by n l None f g (inr x) (inr y) = x .1 ∙ sym (y .1)
 record-fault-by n l (Some k) f g x y = numbers-fault-one l k n f g x y
 
-pub record-fault-one : (n : ℕ) (l : Text) (f g : TextFault) → RecordFault n l f → RecordFault n l g → f ≡ g
+pub record-fault-one : (n : ℕ) (l : RawLine) (f g : TextFault) → RecordFault n l f → RecordFault n l g → f ≡ g
 record-fault-one n l f g x y = record-fault-by n l (recordLetter (firstField l)) f g x y

@@ -9,7 +9,7 @@ use lib.Dec.{eqb, ltb}
 use lib.ListN.{length, take, drop}
 use Rattle.std.proofs.shelf.Lists.{nil-from-length, drop-all, take-rest, length-drop}
 use Rattle.std.proofs.shelf.Ways.{tells}
-use Rattle.lines.specs.Pieces.{Text, runTo, onLine, linesOf, onField, fieldsOf}
+use Rattle.lines.specs.Pieces.{RawLine, runTo, onLine, linesOf, onField, fieldsOf}
 
 -- one byte more in front
 module _ (x n : ℕ) (xs : List ℕ) where

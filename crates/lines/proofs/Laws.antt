@@ -9,7 +9,7 @@ use lib.Dec.{eqb}
 use lib.ListN.{length}
 use Rattle.std.proofs.shelf.Lists.{append-nil}
 use Rattle.std.proofs.shelf.Tests.{eqb-true, eqb-false, ne-eqb}
-use Rattle.lines.specs.Pieces.{Text, onLine, linesOf, onField, fieldsOf, Lacks, ending, fileOf, Whole, Lined, lineOf, Apart, Fielded}
+use Rattle.lines.specs.Pieces.{RawLine, onLine, linesOf, onField, fieldsOf, Lacks, ending, fileOf, Whole, Lined, lineOf, Apart, Fielded}
 
 -- a finished line, and an unfinished one, in front of what follows
 pub lines-finished : (bs rest : List ℕ) → Lacks 10 bs → linesOf (bs ++ (10 ∷ rest)) ≡ (bs, true) ∷ linesOf rest
@@ -33,12 +33,12 @@ next-line : (bs rest : List ℕ) (f : Bool) → Lacks 10 bs → f ≡ true → l
 next-line bs rest true h e = lines-finished bs rest h
 next-line bs rest false h e = let z : _≡_ {A = ℕ} 0 1 = cc in absurd (omega arith)
 
-pub lines-back : (ls : List Text) → Whole ls → linesOf (fileOf ls) ≡ ls
+pub lines-back : (ls : List RawLine) → Whole ls → linesOf (fileOf ls) ≡ ls
 lines-back [] h = refl
 lines-back (l ∷ []) h = last-line (l .0) (l .1) (h .0) (h .1)
 lines-back (l ∷ (m ∷ ls)) h = next-line (l .0) (fileOf (m ∷ ls)) (l .1) (h .0) (h .1) ∙ ap (λ t. l ∷ t) (lines-back (m ∷ ls) (h .2))
 
-file-front : (x : ℕ) (ls : List Text) → fileOf (onLine x ls) ≡ x ∷ fileOf ls
+file-front : (x : ℕ) (ls : List RawLine) → fileOf (onLine x ls) ≡ x ∷ fileOf ls
 file-front x [] = refl
 file-front x (l ∷ ls) = refl
 
@@ -50,11 +50,11 @@ file-back : (xs : List ℕ) → fileOf (linesOf xs) ≡ xs
 file-back [] = refl
 file-back (x ∷ xs) = file-more x xs (eqb x 10) refl (file-back xs)
 
-whole-ended : (ls : List Text) → Whole ls → Whole (([], true) ∷ ls)
+whole-ended : (ls : List RawLine) → Whole ls → Whole (([], true) ∷ ls)
 whole-ended [] h = (tt, inl refl)
 whole-ended (l ∷ ls) h = (tt, refl, h)
 
-whole-front : (x : ℕ) (ls : List Text) → (x ≡ 10 → ⊥) → Whole ls → Whole (onLine x ls)
+whole-front : (x : ℕ) (ls : List RawLine) → (x ≡ 10 → ⊥) → Whole ls → Whole (onLine x ls)
 whole-front x [] ne h = ((ne, tt), inr (omega arith))
 whole-front x (l ∷ []) ne h = ((ne, h .0), inr (omega arith))
 whole-front x (l ∷ (m ∷ ls)) ne h = ((ne, h .0), h .1, h .2)

@@ -10,8 +10,8 @@ use Rattle.std.specs.declared.option.Option.{Option}
 use Rattle.std.specs.declared.option.Option.the-variants.{Some, None}
 
 -- a line: its bytes without the byte 10, and whether a byte 10 ends it
-abbrev pub Text : Type 0
-Text = List ℕ × Bool
+abbrev pub RawLine : Type 0
+RawLine = List ℕ × Bool
 
 -- how many bytes come before the first that is `stop`
 abbrev pub runTo : ℕ → List ℕ → ℕ
@@ -19,12 +19,12 @@ runTo stop [] = 0
 runTo stop (x ∷ xs) = cond (eqb x stop) 0 (1 + runTo stop xs)
 
 -- a byte in front of the first line
-abbrev pub onLine : ℕ → List Text → List Text
+abbrev pub onLine : ℕ → List RawLine → List RawLine
 onLine x [] = (x ∷ [], false) ∷ []
 onLine x (l ∷ ls) = (x ∷ l .0, l .1) ∷ ls
 
 -- the lines of a file
-abbrev pub linesOf : List ℕ → List Text
+abbrev pub linesOf : List ℕ → List RawLine
 linesOf [] = []
 linesOf (x ∷ xs) = cond (eqb x 10) (([], true) ∷ linesOf xs) (onLine x (linesOf xs))
 
@@ -59,12 +59,12 @@ ending true = 10 ∷ []
 ending false = []
 
 -- the lines one after the other
-abbrev pub fileOf : List Text → List ℕ
+abbrev pub fileOf : List RawLine → List ℕ
 fileOf [] = []
 fileOf (l ∷ ls) = l .0 ++ (ending (l .1) ++ fileOf ls)
 
 -- no line holds a byte 10, and only the last may be unfinished, which then is not empty
-abbrev pub Whole : List Text → Type 0
+abbrev pub Whole : List RawLine → Type 0
 Whole [] = Unit {0}
 Whole (l ∷ []) = Lacks 10 (l .0) × ((l .1 ≡ true) ⊎ (0 < length (l .0)))
 Whole (l ∷ (m ∷ ls)) = Lacks 10 (l .0) × (l .1 ≡ true) × Whole (m ∷ ls)
@@ -73,7 +73,7 @@ Whole (l ∷ (m ∷ ls)) = Lacks 10 (l .0) × (l .1 ≡ true) × Whole (m ∷ ls
 pub record Lined (file : List ℕ) : Type 0 where
   pub joined : fileOf (linesOf file) ≡ file
   pub whole : Whole (linesOf file)
-  pub only : (ls : List Text) → Whole ls → fileOf ls ≡ file → ls ≡ linesOf file
+  pub only : (ls : List RawLine) → Whole ls → fileOf ls ≡ file → ls ≡ linesOf file
 
 -- the fields with a byte 9 between each two
 abbrev pub lineOf : List (List ℕ) → List ℕ

@@ -64,5 +64,11 @@ fn run(rt: &LibcRuntime) -> Result<(), AnyError> {
 }
 
 fn main(rt: LibcRuntime) -> Result<(), AnyError> {
-    rt.report(run(&rt))
+    match run(&rt) {
+        Ok(()) => Ok(()),
+        Err(e) => {
+            eprintln!(rt, "netcheck: {e}")?;
+            Err(e)
+        }
+    }
 }
