@@ -1,13 +1,11 @@
 -- Reading a file and writing it anew, line by line.
-use Prim.Native.Nat.{ℕ, _+_, _<_, _≤_}
+use Prim.Native.Nat.{ℕ, _+_, _≤_}
 use native.Mathlib.Omega.{arith}
 use mathlib.Core.Path.{_≡_, refl, sym, _∙_, ap, subst}
 use mathlib.Core.List.{List, [], _∷_, _++_}
-use mathlib.Core.Bool.{true}
-use lib.ListN.{length, take, drop}
+use lib.ListN.{length, drop}
 use Rattle.std.proofs.shelf.Lists.{append-nil, append-assoc, length-append, joined-more, nil-from-length}
 use Rattle.std.specs.declared.option.Option.the-variants.{Some, None}
-use Rattle.std.specs.declared.result.Result.{Result}
 use Rattle.std.specs.declared.result.Result.the-variants.{Ok, Err}
 use Rattle.std.specs.Joined.{joined}
 use Rattle.lines.specs.Pieces.{RawLine, linesOf, fileOf, ending}
@@ -19,7 +17,7 @@ use Rattle.records.specs.declared.writing.WriteFault.{WriteFault}
 use Rattle.records.specs.declared.writing.WriteFault.the-variants.{LargeNumber, NoRoom}
 use Rattle.records.specs.Rendering.{lineText, sizeText, sizeNumbers, recordText, finished, fileText, Small}
 use Rattle.files.specs.Rewrites.{Readable}
-use Rattle.files.specs.Says.{SaysSize, SaysRecord, SayRecords, FirstSays, NextSays, Reads, FileFault}
+use Rattle.files.specs.Says.{FirstSays, NextSays, Reads}
 use Rattle.records.specs.Writes.{Wrote, WritesLine}
 use Rattle.files.proofs.LineByLine.{Upto, begins, goes-on, record-fault, all-read, text-of}
 use Rattle.files.proofs.OneAnswer.{reads-or-fault}

@@ -1,11 +1,11 @@
 -- A line whose first field is one letter.
-use Prim.Native.Nat.{ℕ, _+_, _-_, _<_, _≤_}
+use Prim.Native.Nat.{ℕ, _-_, _<_, _≤_}
 use native.Mathlib.Omega.{arith}
-use mathlib.Core.Path.{_≡_, refl, sym, _∙_, ap, subst}
+use mathlib.Core.Path.{_≡_, sym, _∙_, ap, subst}
 use mathlib.Core.List.{List, [], _∷_, _++_}
 use mathlib.Core.Logic.{_⊎_, inl, inr}
 use lib.ListN.{length, getD, take, drop}
-use Rattle.std.proofs.shelf.Lists.{drop-more, drop-all, take-rest, nil-from-length}
+use Rattle.std.proofs.shelf.Lists.{drop-more, drop-all, take-rest}
 use Rattle.lines.specs.Pieces.{fieldsOf, lineOf, Lacks, Apart}
 use Rattle.lines.proofs.Laws.{fielded, fields-then, fields-last}
 

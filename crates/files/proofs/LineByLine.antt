@@ -1,24 +1,21 @@
 -- Judging a file line by line.
-use Prim.Native.Nat.{ℕ, _+_, _<_, _≤_}
+use Prim.Native.Nat.{ℕ, _+_}
 use native.Mathlib.Omega.{arith}
 use mathlib.Core.Path.{_≡_, refl, sym, _∙_, ap}
 use mathlib.Core.List.{List, [], _∷_, _++_}
-use mathlib.Core.Bool.{true}
 use lib.ListN.{length, drop}
 use Rattle.std.proofs.shelf.Lists.{append-nil, append-assoc, length-push}
 use Rattle.std.specs.declared.option.Option.the-variants.{Some, None}
-use Rattle.std.specs.declared.result.Result.{Result}
 use Rattle.std.specs.declared.result.Result.the-variants.{Ok, Err}
 use Rattle.std.specs.Joined.{joined}
 use Rattle.lines.specs.Pieces.{RawLine, linesOf, fileOf}
 use Rattle.lines.proofs.Laws.{lined}
 use Rattle.records.specs.declared.faults.TextFault.{TextFault}
-use Rattle.records.specs.declared.faults.TextFault.the-variants.{NoSize}
 use Rattle.records.specs.declared.Record.{Record}
 use Rattle.records.specs.declared.Size.{Size}
 use Rattle.files.specs.declared.judging.Summary.{Summary}
 use Rattle.files.specs.Answers.{summary}
-use Rattle.records.specs.Rendering.{sizeText, recordText, finished, fileText, AllSmall}
+use Rattle.records.specs.Rendering.{sizeText, recordText, finished, AllSmall}
 use Rattle.files.specs.Says.{SaysSize, SaysRecord, SayRecords, FirstSays, NextSays, FileFault, empty, first, later, Reads}
 
 -- The lines read so far say the size and n records; `left` are to come.

@@ -1,7 +1,7 @@
 -- A file says one thing or has one fault, and never both.
-use Prim.Native.Nat.{ℕ, suc, _+_, _<_}
+use Prim.Native.Nat.{ℕ, suc, _+_}
 use native.Mathlib.Omega.{arith}
-use mathlib.Core.Path.{_≡_, refl, sym, _∙_, ap, subst}
+use mathlib.Core.Path.{_≡_, refl, sym, _∙_, ap}
 use mathlib.Core.List.{List, [], _∷_, _++_, map}
 use mathlib.Core.Bool.{true}
 use lib.ListN.{length}
@@ -14,21 +14,15 @@ use Rattle.lines.proofs.Laws.{lines-finished}
 use Rattle.records.specs.declared.faults.TextFault.{TextFault}
 use Rattle.files.specs.declared.judging.Summary.{Summary}
 use Rattle.records.specs.declared.Record.{Record}
-use Rattle.records.specs.declared.Record.the-variants.{Entry, Home, Way}
 use Rattle.records.specs.declared.Size.{Size}
 use Rattle.files.specs.Answers.{summary, Answers, Sole}
-use Rattle.records.specs.Rendering.{numbersText, lineText, sizeNumbers, letterOf, numbersOf, sizeText, recordText, finished, fileText, Small, AllSmall}
-use Rattle.files.specs.Says.{SaysSize, SaysRecord, SayRecords, RecordFault, SizeFault, Reads, FileFault, empty, first, later}
-use Rattle.files.proofs.OneLine.{lacks-decimal, lacks-append, size-or-fault, size-one, size-fault-one, record-or-fault, record-one, record-fault-one}
+use Rattle.records.specs.Rendering.{numbersText, sizeNumbers, numbersOf, sizeText, recordText, finished, Small, AllSmall}
+use Rattle.files.specs.Says.{SaysSize, SayRecords, RecordFault, Reads, FileFault, empty, first, later}
+use Rattle.files.proofs.OneLine.{letter-above, lacks-decimal, lacks-append, size-or-fault, size-one, size-fault-one, record-or-fault, record-one, record-fault-one}
 
 lacks-numbers : (ns : List ℕ) → Small ns → Lacks 10 (numbersText ns)
 lacks-numbers [] h = tt
 lacks-numbers (n ∷ ns) h = ((λ e. omega arith), lacks-append 10 _ (numbersText ns) (lacks-decimal 10 n (omega arith) (h .0)) (lacks-numbers ns (h .1)))
-
-no-line-end : (r : Record) → letterOf r ≡ 10 → ⊥
-no-line-end (Entry c d) e = omega arith
-no-line-end (Home c d) e = omega arith
-no-line-end (Way c d h) e = omega arith
 
 -- the first line of a text, where that holds no byte 10 itself
 line-written : (line rest : List ℕ) → Lacks 10 line → linesOf (finished line ++ rest) ≡ (line, true) ∷ linesOf rest
@@ -45,7 +39,7 @@ rows-say (r ∷ rs) h = (record { text = refl; small = h .0 }, rows-say rs (h .1
 rows-written : (rs : List Record) → AllSmall rs → linesOf (joined (λ r. finished (recordText r)) rs) ≡ rows rs
 rows-written [] h = refl
 rows-written (r ∷ rs) h =
-    line-written (recordText r) (joined (λ q. finished (recordText q)) rs) (no-line-end r, lacks-numbers (numbersOf r) (h .0)) ∙ ap (λ ls. (recordText r, true) ∷ ls) (rows-written rs (h .1))
+    line-written (recordText r) (joined (λ q. finished (recordText q)) rs) ((λ e. let a = letter-above r in omega arith), lacks-numbers (numbersOf r) (h .0)) ∙ ap (λ ls. (recordText r, true) ∷ ls) (rows-written rs (h .1))
 
 lines-read : (file : List ℕ) (s : Size) (rs : List Record) → Reads file s rs → linesOf file ≡ (sizeText s, true) ∷ rows rs
 lines-read file s rs h =

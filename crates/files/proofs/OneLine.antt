@@ -1,18 +1,18 @@
 -- A line says one thing or has one fault, and never both.
-use Prim.Native.Nat.{ℕ, zero, suc, _+_, _<_, _≤_}
+use Prim.Native.Nat.{ℕ, zero, suc, _<_, _≤_}
 use native.Mathlib.Omega.{arith}
 use mathlib.Core.Path.{_≡_, refl, sym, _∙_, ap, subst}
 use mathlib.Core.List.{List, [], _∷_, _++_, map}
-use mathlib.Core.Bool.{Bool, true, false}
+use mathlib.Core.Bool.{true}
 use mathlib.Core.Logic.{_⊎_, inl, inr}
 use lib.ListN.{length, getD, drop}
-use Rattle.std.proofs.shelf.Lists.{length-map, getD-map}
+use Rattle.std.proofs.shelf.Lists.{length-map}
 use Rattle.std.proofs.shelf.Tests.{cases-order}
 use Rattle.std.specs.declared.option.Option.{Option}
 use Rattle.std.specs.declared.option.Option.the-variants.{Some, None}
 use Rattle.std.specs.Written.{decimal}
 use Rattle.lines.specs.Numbers.{Spelled}
-use Rattle.lines.specs.Pieces.{RawLine, Lacks, fieldsOf, lineOf, Apart}
+use Rattle.lines.specs.Pieces.{RawLine, Lacks, fieldsOf, Apart}
 use Rattle.lines.proofs.Laws.{fields-back}
 use Rattle.lines.proofs.Numerals.{decimal-spelled, spells-one}
 use Rattle.records.specs.declared.faults.TextFault.{TextFault}
@@ -20,7 +20,7 @@ use Rattle.records.specs.declared.faults.TextFault.the-variants.{NoSize, Unknow
 use Rattle.records.specs.declared.Record.{Record}
 use Rattle.records.specs.declared.Record.the-variants.{Entry, Home, Way}
 use Rattle.records.specs.declared.Size.{Size}
-use Rattle.records.specs.Rendering.{numbersText, lineText, sizeNumbers, letterOf, numbersOf, recordText, sizeText, Small}
+use Rattle.records.specs.Rendering.{lineText, sizeNumbers, letterOf, numbersOf, Small}
 use Rattle.files.specs.Says.{SaysSize, SaysRecord, firstField, behind, sizeLetter, recordLetter, Misshapen, BadField, NumbersFault, SizeFaultBy, SizeFault, RecordFaultBy, RecordFault}
 use Rattle.files.proofs.Written.{line-of-numbers}
 
@@ -133,10 +133,11 @@ pub size-fault-one : (l : RawLine) (f g : TextFault) → SizeFault l f → SizeF
 size-fault-one l f g x y = size-fault-by l (sizeLetter (firstField l)) f g x y
 
 -- the later lines
-no-tab : (r : Record) → letterOf r ≡ 9 → ⊥
-no-tab (Entry c d) e = omega arith
-no-tab (Home c d) e = omega arith
-no-tab (Way c d h) e = omega arith
+-- the letters lie above the bytes 9 and 10
+pub letter-above : (r : Record) → 10 < letterOf r
+letter-above (Entry c d) = omega arith
+letter-above (Home c d) = omega arith
+letter-above (Way c d h) = omega arith
 
 known : (r : Record) → recordLetter (letterOf r ∷ []) ≡ Some (length (numbersOf r))
 known (Entry c d) = refl
@@ -144,7 +145,7 @@ known (Home c d) = refl
 known (Way c d h) = refl
 
 record-fields : (l : RawLine) (r : Record) → SaysRecord l r → fieldsOf (l .0) ≡ (letterOf r ∷ []) ∷ map decimal (numbersOf r)
-record-fields l r h = ap (λ t. fieldsOf (t .0)) (h .text) ∙ fields-written (letterOf r) (numbersOf r) (no-tab r) (h .small)
+record-fields l r h = ap (λ t. fieldsOf (t .0)) (h .text) ∙ fields-written (letterOf r) (numbersOf r) (λ e. let a = letter-above r in omega arith) (h .small)
 
 pub record-or-fault : (n : ℕ) (l : RawLine) (r : Record) (f : TextFault) → SaysRecord l r → RecordFault n l f → ⊥
 record-or-fault n l r f h x =

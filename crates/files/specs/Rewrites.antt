@@ -5,13 +5,11 @@ use mathlib.Core.List.{List}
 use lib.ListN.{length}
 use Rattle.std.specs.declared.result.Result.{Result}
 use Rattle.std.specs.declared.result.Result.the-variants.{Ok, Err}
-use Rattle.records.specs.declared.faults.TextFault.{TextFault}
 use Rattle.records.specs.declared.Record.{Record}
 use Rattle.records.specs.declared.Size.{Size}
 use Rattle.files.specs.declared.rewriting.RewriteFault.{RewriteFault}
 use Rattle.files.specs.declared.rewriting.RewriteFault.the-variants.{Text, Line}
 use Rattle.records.specs.declared.writing.WriteFault.the-variants.{LargeNumber, NoRoom}
-use Rattle.records.specs.Rendering.{fileText}
 use Rattle.files.specs.Says.{Reads, FileFault}
 use Rattle.records.specs.Writes.{Wrote}
 

@@ -2,14 +2,14 @@
 use Prim.Native.Nat.{ℕ, suc, _+_, _-_, _<_, _≤_}
 use native.Mathlib.Omega.{arith}
 use native.Mathlib.Numerals.{one-add}
-use mathlib.Core.Path.{_≡_, refl, sym, _∙_, ap}
-use mathlib.Core.List.{List, [], _∷_, _++_}
+use mathlib.Core.Path.{_≡_, refl, _∙_, ap}
+use mathlib.Core.List.{List, [], _∷_}
 use mathlib.Core.Bool.{Bool, true, false, cond}
 use lib.Dec.{eqb, ltb}
 use lib.ListN.{length, take, drop}
 use Rattle.std.proofs.shelf.Lists.{nil-from-length, drop-all, take-rest, length-drop}
 use Rattle.std.proofs.shelf.Ways.{tells}
-use Rattle.lines.specs.Pieces.{RawLine, runTo, onLine, linesOf, onField, fieldsOf}
+use Rattle.lines.specs.Pieces.{runTo, onLine, linesOf, onField, fieldsOf}
 
 -- one byte more in front
 module _ (x n : ℕ) (xs : List ℕ) where

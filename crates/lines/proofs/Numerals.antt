@@ -4,11 +4,11 @@ use native.Mathlib.Omega.{arith}
 use native.Mathlib.Nat.{pow-le-pow-right}
 use lib.Pow.{pow-add}
 use mathlib.Core.Path.{_≡_, sym, _∙_, ap, subst}
-use mathlib.Core.List.{List, [], _∷_}
-use mathlib.Core.Logic.{_⊎_, inl, inr}
+use mathlib.Core.List.{List}
+use mathlib.Core.Logic.{inl, inr}
 use lib.ListN.{length, take, getD}
 use Rattle.std.specs.Reads.{Digits, value}
-use Rattle.std.specs.Text.{In, digitValue}
+use Rattle.std.specs.Text.{digitValue}
 use Rattle.std.specs.Written.{decimal}
 use Rattle.std.proofs.shelf.Decimals.{decimal-reads, decimal-digit, length-decimal-le, decimal-some, first-decimal, decimal-value, same-from-decimal}
 use Rattle.std.proofs.shelf.Digits.{value-more, digits-more}

@@ -1,5 +1,5 @@
 use mathlib.Core.Path.{_∙_}
-use mathlib.Core.List.{[], _∷_}
+use mathlib.Core.List.{[]}
 use Rattle.lines.proofs.Numerals.{spells-spelled}
 use Rattle.std.proofs.shelf.Results.{err-from-errBy}
 use Rattle.files.proofs.BadFields.{second-bad}

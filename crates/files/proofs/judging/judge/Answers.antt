@@ -1,10 +1,7 @@
-use mathlib.Core.Path.{sym, ap}
 use native.Mathlib.Omega.{arith}
 use Rattle.std.proofs.shelf.Results.{err-from-errBy}
 use Rattle.std.specs.declared.result.Result.the-variants.{Ok, Err}
-use Rattle.lines.specs.Pieces.{linesOf}
 use Rattle.files.specs.Answers.{Answers}
-use Rattle.files.specs.Says.{FirstSays, NextSays}
 use Rattle.files.proofs.LineByLine.{begins, goes-on, counts, size-fault, record-fault, all-read, say-same-length}
 use Rattle.files.proofs.OneAnswer.{sole}
 use Rattle.files.proofs.judging.judge.Needs as need

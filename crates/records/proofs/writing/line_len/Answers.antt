@@ -1,7 +1,5 @@
 use native.Mathlib.Omega.{arith}
-use mathlib.Core.Path.{sym, _∙_}
-use lib.ListN.{getD}
-use Rattle.records.proofs.Texts.{length-line, length-text-step, length-text-end, five-digits}
+use Rattle.records.proofs.Texts.{length-line, length-text-step, length-text-end}
 use Rattle.records.proofs.writing.line_len.Needs as need
 
 pub loop-n-again : need.loop-n-again

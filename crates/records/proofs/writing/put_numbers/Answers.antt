@@ -1,6 +1,4 @@
-use Prim.Native.Nat.{_<_}
 use native.Mathlib.Omega.{arith}
-use lib.ListN.{length}
 use Rattle.std.proofs.shelf.Lists.{length-set}
 use Rattle.records.proofs.Texts.{wrote-none, wrote-number, wrote-all, room-left, length-text-step}
 use Rattle.records.proofs.writing.put_numbers.Needs as need
