@@ -1,0 +1,5 @@
+pub mod Allowed
+pub mod Cleared
+pub mod Faults
+pub mod Nets
+pub mod Rooms

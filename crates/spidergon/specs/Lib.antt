@@ -1,0 +1,4 @@
+pub mod Arrival
+pub mod Building
+pub mod Limits
+pub mod Rings

@@ -1,0 +1,7 @@
+mod Adding
+mod Adds
+pub mod ByRecord
+mod Misfits
+pub mod OneAnswer
+mod OneCell
+mod OneTable

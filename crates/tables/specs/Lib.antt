@@ -1,0 +1,4 @@
+pub mod Cells
+pub mod Drawn
+pub mod Makes
+pub mod Meaning
