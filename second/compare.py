@@ -12,7 +12,7 @@ sys.dont_write_bytecode = True
 from files import generate
 from netcheck import answer
 
-KINDS = ["accepted", "fault 10", "fault 11", "fault 12", "fault 13", "fault 14", "fault 20"]
+KINDS = ["accepted"] + [f"fault {number}" for number in (10, 11, 12, 13, 14, 15, 16, 17, 18, 20)]
 FULL_RUN = 2000
 SECONDS = 60
 

@@ -9,7 +9,7 @@ from pathlib import Path
 
 sys.dont_write_bytecode = True
 from expected import EXPECTED
-from netcheck import answer, judge
+from netcheck import answer, text_in_order
 
 SAMPLES = Path(__file__).resolve().parent.parent / "crates" / "samples"
 
@@ -32,11 +32,12 @@ def main():
 
     files = sorted((SAMPLES / "data").iterdir(), key=lambda file: file.name)
     answers = {file.name: answer(file.read_bytes()) for file in files}
-    accepted = sum(judge(file.read_bytes()).startswith(b"read") for file in files)
+    # The sample program writes anew whatever has its text in order, be its numbers in range or not.
+    written = sum(text_in_order(file.read_bytes()) for file in files)
     outputs = {
         "args": b"".join(name.encode("ascii") + b"\n" for name in answers),
         "stdout": b"".join(name.encode("ascii") + b": " + line for name, line in answers.items())
-        + b"%d files written anew: %d the same, %d refused for want of a byte\n" % (accepted, accepted, accepted),
+        + b"%d files written anew: %d the same, %d refused for want of a byte\n" % (written, written, written),
     }
 
     problems = list(table_problems(answers))

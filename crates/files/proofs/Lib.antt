@@ -1,7 +1,7 @@
 mod BadFields
 mod Copies
 mod Letters
-mod LineByLine
-mod OneAnswer
-mod OneLine
+pub mod LineByLine
+pub mod OneAnswer
+pub mod OneLine
 mod Written

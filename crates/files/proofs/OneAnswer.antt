@@ -29,10 +29,10 @@ line-written : (line rest : List ℕ) → Lacks 10 line → linesOf (finished li
 line-written line rest h = ap linesOf (append-assoc line (10 ∷ []) rest) ∙ lines-finished line rest h
 
 -- the lines of records as they are written
-abbrev rows : List Record → List RawLine
+abbrev pub rows : List Record → List RawLine
 rows rs = map (λ r. (recordText r, true)) rs
 
-rows-say : (rs : List Record) → AllSmall rs → SayRecords (rows rs) rs
+pub rows-say : (rs : List Record) → AllSmall rs → SayRecords (rows rs) rs
 rows-say [] h = tt
 rows-say (r ∷ rs) h = (record { text = refl; small = h .0 }, rows-say rs (h .1))
 
@@ -41,14 +41,14 @@ rows-written [] h = refl
 rows-written (r ∷ rs) h =
     line-written (recordText r) (joined (λ q. finished (recordText q)) rs) ((λ e. let a = letter-above r in omega arith), lacks-numbers (numbersOf r) (h .0)) ∙ ap (λ ls. (recordText r, true) ∷ ls) (rows-written rs (h .1))
 
-lines-read : (file : List ℕ) (s : Size) (rs : List Record) → Reads file s rs → linesOf file ≡ (sizeText s, true) ∷ rows rs
+pub lines-read : (file : List ℕ) (s : Size) (rs : List Record) → Reads file s rs → linesOf file ≡ (sizeText s, true) ∷ rows rs
 lines-read file s rs h =
     ap linesOf (h .text) ∙ line-written (sizeText s) (joined (λ q. finished (recordText q)) rs) ((λ e. omega arith), lacks-numbers (sizeNumbers s) (h .size-small)) ∙ ap (λ ls. (sizeText s, true) ∷ ls) (rows-written rs (h .small))
 
-size-read : (file : List ℕ) (s : Size) (rs : List Record) → Reads file s rs → SaysSize (sizeText s, true) s
+pub size-read : (file : List ℕ) (s : Size) (rs : List Record) → Reads file s rs → SaysSize (sizeText s, true) s
 size-read file s rs h = record { text = refl; small = h .size-small }
 
-say-one : (ls : List RawLine) (rs qs : List Record) → SayRecords ls rs → SayRecords ls qs → rs ≡ qs
+pub say-one : (ls : List RawLine) (rs qs : List Record) → SayRecords ls rs → SayRecords ls qs → rs ≡ qs
 say-one [] [] [] h k = refl
 say-one [] [] (q ∷ qs) h k = absurd k
 say-one [] (r ∷ rs) qs h k = absurd h
@@ -56,7 +56,7 @@ say-one (l ∷ ls) [] qs h k = absurd h
 say-one (l ∷ ls) (r ∷ rs) [] h k = absurd k
 say-one (l ∷ ls) (r ∷ rs) (q ∷ qs) h k = let a = record-one l r q (h .0) (k .0) in let b = say-one ls rs qs (h .1) (k .1) in cc
 
-reads-one : (file : List ℕ) (s t : Size) (rs qs : List Record) → Reads file s rs → Reads file t qs → (s ≡ t) × (rs ≡ qs)
+pub reads-one : (file : List ℕ) (s t : Size) (rs qs : List Record) → Reads file s rs → Reads file t qs → (s ≡ t) × (rs ≡ qs)
 reads-one file s t rs qs h k =
     let a = lines-read file s rs h in
     let b = lines-read file t qs k in

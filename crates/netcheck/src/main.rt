@@ -17,10 +17,12 @@ netcheck: checks a network file
 usage: netcheck < FILE
        netcheck --help
 
-Reads a network file of at most 32,768 bytes from standard input and prints one line:
-  read   CHANNELS PLACES RECORDS     the file is accepted
-  fault  LAYER NUMBER LINE FIELD     the file is refused
-The fields are parted by tabs. docs/FORMAT.md has the format, docs/REFUSALS.md the faults.
+Reads a network file from standard input and prints one line:
+  read   CHANNELS PLACES RECORDS ALLOWED     the file is accepted; so many pairs of a channel
+                                             and a place are allowed: packets can reach them
+  fault  LAYER NUMBER LINE FIELD             the file is refused
+The fields are parted by tabs. At most 32,768 bytes, 2,048 records, 128 channels and 32 places.
+docs/FORMAT.md has the format, docs/RULES.md what networks are, docs/REFUSALS.md the faults.
 The exit status is 0 for both answers, and 1 where the system fails.
 ";
 

@@ -1,2 +1,3 @@
+pub mod Counts
 pub mod Positions
-mod Queueing
+pub mod Queueing

@@ -1,0 +1,3 @@
+mod ByLine
+pub mod Readings
+mod Stores

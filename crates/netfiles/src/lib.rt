@@ -1,0 +1,3 @@
+//! Network files read into lists of records, and written from them.
+
+pub mod reading;
