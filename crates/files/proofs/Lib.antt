@@ -1,5 +1,5 @@
 mod BadFields
-mod Copies
+pub mod Copies
 mod Letters
 pub mod LineByLine
 pub mod OneAnswer

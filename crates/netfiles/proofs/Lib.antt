@@ -1,3 +1,5 @@
 mod ByLine
 pub mod Readings
 mod Stores
+mod Totals
+mod WrittenLines

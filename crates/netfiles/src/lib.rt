@@ -1,3 +1,4 @@
 //! Network files read into lists of records, and written from them.
 
 pub mod reading;
+pub mod writing;

@@ -6,7 +6,7 @@ ghost use Prim.Native.Nat.{ℕ, _+_, _<_, _≤_};
 ghost use lib.ListN.{length, take, drop};
 ghost use Rattle.std.specs.Orderings.{Decides};
 ghost use Rattle.std.specs.Written.{decimal};
-ghost use Rattle.records.specs.Rendering.{finished, letter-n, lineText, numbersText, sizeNumbers, letterOf, numbersOf, Small};
+ghost use Rattle.records.specs.Rendering.{finished, letter-n, lineText, numbersText, sizeNumbers, sizeText, letterOf, numbersOf, recordText, Small};
 ghost use Rattle.records.specs.Writes.{Wrote, WritesLine};
 use crate::Record;
 use crate::Size;
@@ -105,6 +105,14 @@ impl Size {
     {
         write_line(b'n', &[self.channels, self.places], out, at)
     }
+
+    /// How many bytes its line takes, the byte 10 included.
+    pub fn text_len(self) -> usize
+        ensures value { λ r. ⌜ r ≡ length (finished (sizeText self)) ⌝ }
+        ensures bound { λ r. ⌜ r ≤ 20 ⌝ }
+    {
+        line_len(&[self.channels, self.places])
+    }
 }
 
 impl Record {
@@ -120,6 +128,22 @@ impl Record {
                 place,
                 next,
             } => write_line(b'w', &[channel, place, next], out, at),
+        }
+    }
+
+    /// How many bytes its line takes, the byte 10 included.
+    pub fn text_len(self) -> usize
+        ensures value { λ r. ⌜ r ≡ length (finished (recordText self)) ⌝ }
+        ensures bound { λ r. ⌜ r ≤ 20 ⌝ }
+    {
+        match self {
+            Record::Entry { channel, place } => line_len(&[channel, place]),
+            Record::Home { channel, place } => line_len(&[channel, place]),
+            Record::Way {
+                channel,
+                place,
+                next,
+            } => line_len(&[channel, place, next]),
         }
     }
 }
