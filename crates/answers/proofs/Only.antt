@@ -1,25 +1,22 @@
 -- What is printed for an input is the only text that may be.
-use Prim.Native.Nat.{ℕ, _<_, _≤_}
+use Prim.Native.Nat.{ℕ}
 use native.Mathlib.Omega.{arith}
-use mathlib.Core.Path.{_≡_, refl, sym, _∙_, ap, subst}
+use mathlib.Core.Path.{_≡_, sym, _∙_, ap, subst}
 use mathlib.Core.List.{List}
 use mathlib.Core.Logic.{_⊎_, inl, inr}
 use lib.ListN.{length}
-use Rattle.records.specs.declared.Record.{Record}
-use Rattle.records.specs.declared.Size.{Size}
 use Rattle.networks.specs.declared.faults.StudyFault.{StudyFault}
-use Rattle.networks.specs.declared.faults.StudyFault.the-variants.{Table, Short}
+use Rattle.networks.specs.declared.faults.StudyFault.the-variants.{Table}
 use Rattle.networks.specs.declared.faults.TableFault.the-variants.{NoMemory}
 use Rattle.networks.specs.Faults.{studyParts}
-use Rattle.networks.specs.Nets.{Net, Conditions}
+use Rattle.networks.specs.Nets.{Net}
 use Rattle.tables.specs.Drawn.{drawn}
 use Rattle.tables.proofs.Limits.{drawn-conditions}
-use Rattle.netfiles.specs.Reading.{Accepted, Refused}
 use Rattle.netfiles.proofs.Readings.{one-reading}
 use Rattle.tracing.specs.Traces.{AllowedPairs}
 use Rattle.tracing.proofs.Counts.{allowed-one}
 use Rattle.answers.specs.declared.Contents.{Contents}
-use Rattle.answers.specs.Prints.{faultLine, readLine, Fits, Holds, Rejects, long, refused, large, Prints, holds, rejects, Answers, Answered}
+use Rattle.answers.specs.Prints.{faultLine, readLine, Fits, Holds, Rejects, long, refused, large, Prints, holds, rejects, Answered}
 
 module _ (input : List ℕ) where
   -- an input that is taken holds one network

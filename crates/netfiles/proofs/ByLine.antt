@@ -1,8 +1,8 @@
 -- Judging a file line by line, with the table of its records so far.
 use Prim.Native.Nat.{ℕ, _+_, _<_, _≤_}
 use native.Mathlib.Omega.{arith}
-use mathlib.Core.Path.{_≡_, refl, sym, ap, _∙_, subst}
-use mathlib.Core.List.{List, [], _∷_, _++_}
+use mathlib.Core.Path.{_≡_, refl, sym, ap, subst}
+use mathlib.Core.List.{List, [], _∷_}
 use mathlib.Core.Logic.{_⊎_, inl, inr}
 use lib.ListN.{length, drop}
 use Rattle.std.specs.declared.option.Option.the-variants.{Some, None}
@@ -11,7 +11,7 @@ use Rattle.lines.specs.Pieces.{RawLine, linesOf}
 use Rattle.records.specs.declared.faults.TextFault.{TextFault}
 use Rattle.records.specs.declared.Record.{Record}
 use Rattle.records.specs.declared.Size.{Size}
-use Rattle.files.specs.Says.{SaysSize, FirstSays, NextSays, Reads}
+use Rattle.files.specs.Says.{SaysSize, FirstSays, NextSays}
 use Rattle.files.proofs.LineByLine as lines
 use Rattle.networks.specs.declared.faults.TableFault.{TableFault}
 use Rattle.networks.specs.declared.faults.TableFault.the-variants.{Text, TooManyRecords, NoMemory}

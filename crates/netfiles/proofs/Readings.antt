@@ -1,15 +1,12 @@
 -- A file is accepted with one size and one list of records, or has one fault, and never both.
-use Prim.Native.Nat.{ℕ, _+_, _<_, _≤_}
+use Prim.Native.Nat.{ℕ, _+_}
 use native.Mathlib.Omega.{arith}
 use mathlib.Core.Path.{_≡_, refl, sym, ap, _∙_, subst}
 use mathlib.Core.List.{List, [], _∷_, _++_}
 use mathlib.Core.Bool.{true}
-use mathlib.Core.Logic.{_⊎_, inl, inr}
 use lib.ListN.{length, take, drop}
 use Rattle.std.proofs.shelf.Lists.{take-at}
 use Rattle.lines.specs.Pieces.{RawLine, linesOf}
-use Rattle.records.specs.declared.faults.TextFault.{TextFault}
-use Rattle.records.specs.declared.faults.TextFault.the-variants.{NoSize}
 use Rattle.records.specs.declared.Record.{Record}
 use Rattle.records.specs.declared.Size.{Size}
 use Rattle.records.specs.Rendering.{sizeText, fileText}
@@ -23,7 +20,7 @@ use Rattle.tables.specs.Drawn.{drawn}
 use Rattle.tables.specs.Makes.{SizeFits, SizeMisfit, Fit, Takes, Misfit}
 use Rattle.tables.proofs.OneAnswer.{Parted, same, before, after, parted, fit-takes, takes-or-misfit, misfit-one, size-or-misfit, size-misfit-one}
 use Rattle.netfiles.specs.Reading as reading
-use Rattle.netfiles.specs.Reading.{limit, Accepted, FirstLine, LaterLine, Refused, empty, first, later, many, OneReading}
+use Rattle.netfiles.specs.Reading.{Accepted, FirstLine, LaterLine, Refused, empty, first, later, many, OneReading}
 
 -- A first line that says a size within the limits has no fault, and any other has one at most.
 first-or-good : (l : RawLine) (s : Size) (f : TableFault) → SaysSize l s → SizeFits s → FirstLine l f → ⊥

@@ -1,9 +1,8 @@
 -- Storing the records of a file.
 use Prim.Native.Nat.{ℕ, _+_, _-_, _<_, _≤_}
 use native.Mathlib.Omega.{arith}
-use mathlib.Core.Path.{_≡_, refl, sym, ap, _∙_, subst}
+use mathlib.Core.Path.{_≡_, refl, sym, ap, _∙_}
 use mathlib.Core.List.{List, [], _∷_, _++_}
-use mathlib.Core.Bool.{true}
 use lib.ListN.{length, drop, set}
 use Rattle.std.proofs.shelf.Lists.{append-assoc, length-append, set-append-right, drop-more, nil-from-length}
 use Rattle.std.specs.declared.option.Option.the-variants.{Some, None}
@@ -12,7 +11,6 @@ use Rattle.lines.specs.Pieces.{RawLine, linesOf}
 use Rattle.records.specs.declared.faults.TextFault.{TextFault}
 use Rattle.records.specs.declared.Record.{Record}
 use Rattle.records.specs.declared.Size.{Size}
-use Rattle.records.specs.Rendering.{sizeText}
 use Rattle.files.specs.Says.{FirstSays, NextSays, Reads}
 use Rattle.files.proofs.LineByLine as lines
 use Rattle.files.proofs.OneAnswer.{rows, lines-read, size-read, reads-one, reads-or-fault}

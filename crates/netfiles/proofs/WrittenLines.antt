@@ -77,9 +77,15 @@ pub refused : (s : Size) (rs : List Record) (room : ℕ) (t : TableFault) → Re
 refused s rs room t (inl f) = faulty t f refl
 refused s rs room t (inr m) = wanting (m .0) (ap Table (m .1))
 
--- the file that was written says the size and the records, and nothing else
+-- the file that was written is read as the size and the records, and as nothing else
 pub written : (s : Size) (rs : List Record) (mid end : ℕ) (old half new : List ℕ) → Acceptable s rs → length half ≡ length old → Wrote (finished (sizeText s)) 0 old half mid → Wrote (recordLines rs) mid half new end → Written s rs old new end
 written s rs mid end old half new a same w v =
     let all : Wrote (fileText s rs) 0 old new end = wrote-then (finished (sizeText s)) (recordLines rs) 0 mid end old half new w same v in
     let back : Reads (take end new) s rs = record { text = wrote-front (fileText s rs) 0 old new end all .0; size-small = small-size s (a .size); small = all-small s rs a } in
-    record { acceptable = a; wrote = all; back = back; only = λ t qs k. reads-one (take end new) t s qs rs k back }
+    let few = a .few in
+    record {
+      acceptable = a;
+      wrote = all;
+      back = λ room h. record { reads = back; size = a .size; fit = a .fit; few = omega arith };
+      only = λ room t qs k. reads-one (take end new) t s qs rs (k .reads) back;
+    }

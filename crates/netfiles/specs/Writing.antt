@@ -1,8 +1,7 @@
 -- Writing a size and records as a network file.
-use Prim.Native.Nat.{ℕ, _<_}
+use Prim.Native.Nat.{ℕ, _<_, _≤_}
 use mathlib.Core.Path.{_≡_}
 use mathlib.Core.List.{List}
-use mathlib.Core.Logic.{_⊎_}
 use lib.ListN.{length, take}
 use Rattle.std.specs.declared.result.Result.{Result}
 use Rattle.std.specs.declared.result.Result.the-variants.{Ok, Err}
@@ -10,20 +9,21 @@ use Rattle.records.specs.declared.Record.{Record}
 use Rattle.records.specs.declared.Size.{Size}
 use Rattle.records.specs.Rendering.{fileText}
 use Rattle.records.specs.Writes.{Wrote}
-use Rattle.files.specs.Says.{Reads}
 use Rattle.networks.specs.declared.faults.Buffer.the-variants.{File}
 use Rattle.networks.specs.declared.faults.StudyFault.{StudyFault}
 use Rattle.networks.specs.declared.faults.StudyFault.the-variants.{Table, Short}
 use Rattle.networks.specs.declared.faults.TableFault.{TableFault}
 use Rattle.networks.specs.declared.faults.TableFault.the-variants.{NoMemory}
 use Rattle.tables.specs.Makes.{Acceptable, RecordsFault, SizeFits}
+use Rattle.netfiles.specs.Reading.{Accepted}
 
--- The file was written from the start of the bytes, and says the size and the records, and nothing else.
+-- The file was written from the start of the bytes. Read into any list with room for them, it is accepted with this size and
+-- these records, and with no others.
 pub record Written (s : Size) (rs : List Record) (old new : List ℕ) (end : ℕ) : Type 0 where
   pub acceptable : Acceptable s rs
   pub wrote : Wrote (fileText s rs) 0 old new end
-  pub back : Reads (take end new) s rs
-  pub only : (t : Size) (qs : List Record) → Reads (take end new) t qs → (t ≡ s) × (qs ≡ rs)
+  pub back : (room : ℕ) → length rs ≤ room → Accepted (take end new) room s rs
+  pub only : (room : ℕ) (t : Size) (qs : List Record) → Accepted (take end new) room t qs → (t ≡ s) × (qs ≡ rs)
 
 -- Why nothing was written: the records make no table, or, where they do, the bytes do not suffice.
 pub data Unwritten (s : Size) (rs : List Record) (room : ℕ) (f : StudyFault) : Type 0 where

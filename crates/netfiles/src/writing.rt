@@ -1,7 +1,7 @@
 //! Writing a size and records as a network file.
 
 ghost use mathlib.Core.Path.{_≡_};
-ghost use Prim.Native.Nat.{ℕ, _+_, _≤_};
+ghost use Prim.Native.Nat.{_+_, _≤_};
 ghost use lib.ListN.{length};
 ghost use Rattle.std.specs.Joined.{joined};
 ghost use Rattle.records.specs.Rendering.{fileText, finished, recordText, AllSmall};

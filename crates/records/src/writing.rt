@@ -1,9 +1,8 @@
 //! Writing the lines of a network file.
 
 ghost use mathlib.Core.Path.{_≡_};
-ghost use mathlib.Core.List.{[], _∷_, _++_};
 ghost use Prim.Native.Nat.{ℕ, _+_, _<_, _≤_};
-ghost use lib.ListN.{length, take, drop};
+ghost use lib.ListN.{length};
 ghost use Rattle.std.specs.Orderings.{Decides};
 ghost use Rattle.std.specs.Written.{decimal};
 ghost use Rattle.records.specs.Rendering.{finished, letter-n, lineText, numbersText, sizeNumbers, sizeText, letterOf, numbersOf, recordText, Small};

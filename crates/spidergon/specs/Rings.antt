@@ -1,6 +1,6 @@
 -- The Spidergon of size n: a ring of 4 × n switches, each with a link to the one across. Channel 4 × s + k leaves switch s.
 use Prim.Native.Nat.{ℕ, _+_, _-_, _*_, _/_, _%_}
-use mathlib.Core.List.{List, [], _∷_}
+use mathlib.Core.List.{[], _∷_}
 use mathlib.Core.Bool.{Bool, cond, _&&_}
 use lib.Dec.{eqb, leb, ltb}
 use Rattle.networks.specs.Nets.{Net}

@@ -1,24 +1,23 @@
 -- The network of the cells, after one cell has changed.
-use Prim.Native.Nat.{ℕ, _+_, _*_, _/_, _%_, _<_, _≤_}
-use native.Mathlib.Omega.{arith}
+use Prim.Native.Nat.{ℕ, _+_, _*_, _/_, _%_, _<_}
 use mathlib.Core.Path.{_≡_, refl, sym, ap, _∙_, subst}
 use mathlib.Core.List.{List, [], _∷_, _++_}
-use mathlib.Core.Logic.{_⊎_, inl, inr, _≢_}
+use mathlib.Core.Logic.{_≢_}
 use mathlib.Core.Bool.{Bool, true, false, cond, _&&_, _||_}
 use lib.Dec.{eqb, ltb}
-use lib.ListN.{length, getD, set}
-use Rattle.std.proofs.shelf.Bits.{mul-add-lt, div-mul-add, mod-mul-add}
+use lib.ListN.{length, set}
+use Rattle.std.proofs.shelf.Bits.{div-mul-add, mod-mul-add}
 use Rattle.std.proofs.shelf.Lists.{append-nil, getD-set-same, getD-set-other}
-use Rattle.std.proofs.shelf.Tests.{cases-eq, ltb-true, lt-ltb, eq-eqb, ne-eqb, and-from, and-parts, and-left, and-right, cond-true, cond-false}
-use Rattle.std.specs.Of.Vec.{vec-items, vec-len}
+use Rattle.std.proofs.shelf.Tests.{ltb-true, lt-ltb, eq-eqb, and-from, and-parts, cond-true, cond-false}
+use Rattle.std.specs.Of.Vec.{vec-items}
 use Rattle.networks.specs.Nets.{Net}
-use Rattle.records.specs.declared.Record.{Record}
 use Rattle.records.specs.declared.Record.the-variants.{Entry, Home, Way}
 use Rattle.tables.specs.declared.cell.Cell.{Cell}
 use Rattle.tables.specs.declared.table.Table.{Table}
 use Rattle.tables.specs.Cells.{inside, cellOf, look, netOf, waysOf, asEntry, asHome, withWay}
 use Rattle.tables.specs.Drawn.{adding}
 use Rattle.tables.specs.Meaning.{meaningOf}
+use Rattle.tables.proofs.Pairs.{Same, here, elsewhere, same-pair, or-none}
 
 -- networks that answer alike are equal
 pub net-ext : {n m : Net} → n .channels ≡ m .channels → n .places ≡ m .places → ((c d : ℕ) → n .entry c d ≡ m .entry c d) → ((c d : ℕ) → n .home c d ≡ m .home c d) → ((c d : ℕ) → n .ways c d ≡ m .ways c d) → n ≡ m
@@ -35,10 +34,6 @@ cond-self false x = refl
 cond-test : (b : Bool) → cond b true false ≡ b
 cond-test true = refl
 cond-test false = refl
-
-or-none : (b : Bool) → (b || false) ≡ b
-or-none true = refl
-or-none false = refl
 
 or-all : (b : Bool) → true ≡ (b || true)
 or-all true = refl
@@ -59,19 +54,15 @@ module _ (channels places : ℕ) (cells : List Cell) (a b : ℕ) (in-channels : 
 
   -- What a changed cell says more, its pair says more, and no other.
   grown : {X : Type 0} (says : Cell → X) (z : X) (plus : X → X → X) (none more : X) → ((w : X) → plus w none ≡ w) → (x : Cell) → says x ≡ plus (says (cellOf places cells a b)) more → (c d : ℕ) → look says z channels places (set cells (a * places + b) x) c d ≡ plus (look says z channels places cells c d) (cond (eqb a c && eqb b d) more none)
-  grown says z plus none more unit x is c d = go (cases-eq a c) (cases-eq b d)
+  grown says z plus none more unit x is c d = go (same-pair a b c d)
     where
-      others : ((c ≡ a) × (d ≡ b) → ⊥) → (eqb a c && eqb b d) ≡ false → look says z channels places (set cells (a * places + b) x) c d ≡ plus (look says z channels places cells c d) (cond (eqb a c && eqb b d) more none)
-      others other e = look-other says z x c d other ∙ sym (unit _) ∙ ap (plus (look says z channels places cells c d)) (sym (cond-false _ more none e))
-
-      here : look says z channels places (set cells (a * places + b) x) a b ≡ plus (look says z channels places cells a b) (cond (eqb a a && eqb b b) more none)
-      here =
+      at-pair : look says z channels places (set cells (a * places + b) x) a b ≡ plus (look says z channels places cells a b) (cond (eqb a a && eqb b b) more none)
+      at-pair =
           look-here says z (set cells (a * places + b) x) ∙ ap says (getD-set-same cells (a * places + b) x _ there) ∙ is ∙ (λ i. plus (sym (look-here says z cells) i) (sym (cond-true (eqb a a && eqb b b) more none (and-from _ _ (eq-eqb a a refl) (eq-eqb b b refl))) i))
 
-      go : (a ≡ c) ⊎ (a ≡ c → ⊥) → (b ≡ d) ⊎ (b ≡ d → ⊥) → look says z channels places (set cells (a * places + b) x) c d ≡ plus (look says z channels places cells c d) (cond (eqb a c && eqb b d) more none)
-      go (inl e) (inl f) = subst (λ (k : ℕ). look says z channels places (set cells (a * places + b) x) c k ≡ plus (look says z channels places cells c k) (cond (eqb a c && eqb b k) more none)) f (subst (λ (k : ℕ). look says z channels places (set cells (a * places + b) x) k b ≡ plus (look says z channels places cells k b) (cond (eqb a k && eqb b b) more none)) e here)
-      go (inl e) (inr nf) = others (λ p. nf (sym (p .1))) (and-right (eqb a c) (eqb b d) (ne-eqb b d nf))
-      go (inr ne) q = others (λ p. ne (sym (p .0))) (and-left (eqb a c) (eqb b d) (ne-eqb a c ne))
+      go : Same a b c d → look says z channels places (set cells (a * places + b) x) c d ≡ plus (look says z channels places cells c d) (cond (eqb a c && eqb b d) more none)
+      go (here e f) = subst (λ (k : ℕ). look says z channels places (set cells (a * places + b) x) c k ≡ plus (look says z channels places cells c k) (cond (eqb a c && eqb b k) more none)) f (subst (λ (k : ℕ). look says z channels places (set cells (a * places + b) x) k b ≡ plus (look says z channels places cells k b) (cond (eqb a k && eqb b b) more none)) e at-pair)
+      go (elsewhere other e) = look-other says z x c d other ∙ sym (unit _) ∙ ap (plus (look says z channels places cells c d)) (sym (cond-false _ more none e))
 
   same : {X : Type 0} (says : Cell → X) (z : X) (plus : X → X → X) (none : X) → ((w : X) → plus w none ≡ w) → (x : Cell) → says x ≡ says (cellOf places cells a b) → (c d : ℕ) → look says z channels places (set cells (a * places + b) x) c d ≡ plus (look says z channels places cells c d) none
   same says z plus none unit x is c d = grown says z plus none none unit x (is ∙ sym (unit _)) c d ∙ ap (plus (look says z channels places cells c d)) (cond-self (eqb a c && eqb b d) none)

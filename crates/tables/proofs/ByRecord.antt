@@ -1,5 +1,5 @@
 -- Making a table record by record.
-use Prim.Native.Nat.{ℕ, zero, suc, _+_, _*_, _<_, _≤_}
+use Prim.Native.Nat.{ℕ, _+_, _*_, _<_, _≤_}
 use native.Mathlib.Omega.{arith}
 use mathlib.Core.Path.{_≡_, refl, sym, ap, _∙_, subst}
 use mathlib.Core.List.{List, [], _∷_, _++_}
@@ -9,12 +9,11 @@ use lib.Dec.{eqb}
 use lib.ListN.{length, getD, take, drop, replicate}
 use Rattle.std.proofs.shelf.Elements.{all-push}
 use Rattle.std.proofs.shelf.Lists.{append-nil, append-assoc, length-append, getD-replicate, getD-past, length-replicate, length-take-le, take-more, take-all, take-append-drop, drop-more, nil-from-length}
-use Rattle.std.proofs.shelf.Tests.{cases-lt, cases-eq, and-left, and-right, ne-eqb, cond-both}
+use Rattle.std.proofs.shelf.Tests.{cases-lt, cond-both}
 use Rattle.std.specs.declared.result.Result.{Result}
 use Rattle.std.specs.declared.result.Result.the-variants.{Ok, Err}
 use Rattle.std.specs.Vec.{made}
 use Rattle.std.specs.Joined.{joined}
-use Rattle.std.specs.shelf.Lists.{All}
 use Rattle.records.specs.declared.Record.{Record}
 use Rattle.records.specs.declared.Record.the-variants.{Entry, Home, Way}
 use Rattle.records.specs.declared.Size.{Size}
@@ -28,6 +27,7 @@ use Rattle.tables.specs.Drawn.{drawn, adding, some, entryBy, homeBy, wayBy}
 use Rattle.tables.specs.Makes.{most, SizeFits, Takes, Within, Full, Fit, Misfit, Acceptable, RecordsFault, first, many}
 use Rattle.tables.specs.Meaning.{meaningOf}
 use Rattle.tables.proofs.Adding.{net-ext}
+use Rattle.tables.proofs.Pairs.{Same, here, elsewhere, same-pair, or-none}
 
 -- two facts of what was made, from two others
 pub made-both : {X Y : Type 0} (r : Result X Y) {P Q P′ Q′ : X → Type 0} → made r P → made r Q → ((x : X) → P x → P′ x) → ((x : X) → Q x → Q′ x) → made r (λ x. P′ x × Q′ x)
@@ -66,12 +66,8 @@ or-assoc : (x y z : Bool) → ((x || y) || z) ≡ (x || (y || z))
 or-assoc true y z = refl
 or-assoc false y z = refl
 
-or-last : (x : Bool) → (x || false) ≡ x
-or-last true = refl
-or-last false = refl
-
 some-push : (p : Record → Bool) (rs : List Record) (r : Record) → some p (rs ++ (r ∷ [])) ≡ (some p rs || p r)
-some-push p [] r = or-last (p r)
+some-push p [] r = or-none (p r)
 some-push p (q ∷ qs) r = ap (λ b. p q || b) (some-push p qs r) ∙ sym (or-assoc (p q) (some p qs) (p r))
 
 pub joined-append : (f : Record → List ℕ) (rs qs : List Record) → joined f (rs ++ qs) ≡ joined f rs ++ joined f qs
@@ -88,22 +84,17 @@ drawn-push s rs r =
 few-more : (n : Net) (r : Record) → ((c d : ℕ) → length (n .ways c d) ≤ 8) → (Full n r → ⊥) → (c d : ℕ) → length (n .ways c d ++ wayBy r c d) ≤ 8
 few-more n (Entry a b) few room c d = rw append-nil (few c d)
 few-more n (Home a b) few room c d = rw append-nil (few c d)
-few-more n (Way a b h) few room c d = go (cases-eq a c) (cases-eq b d)
+few-more n (Way a b h) few room c d = go (same-pair a b c d)
   where
-    others : (eqb a c && eqb b d) ≡ false → length (n .ways c d ++ cond (eqb a c && eqb b d) (h ∷ []) []) ≤ 8
-    others e = rw (e, append-nil) (few c d)
+    less : length (n .ways a b) < 8
+    less = ⊎-elim (λ lt. lt) (λ le. absurd (room le)) (cases-lt (length (n .ways a b)) 8)
 
-    go : (a ≡ c) ⊎ (a ≡ c → ⊥) → (b ≡ d) ⊎ (b ≡ d → ⊥) → length (n .ways c d ++ cond (eqb a c && eqb b d) (h ∷ []) []) ≤ 8
-    go (inl e) (inl f) =
+    go : Same a b c d → length (n .ways c d ++ cond (eqb a c && eqb b d) (h ∷ []) []) ≤ 8
+    go (here e f) =
         let same : n .ways c d ≡ n .ways a b = λ i. n .ways (sym e i) (sym f i) in
         let one : length (cond (eqb a c && eqb b d) (h ∷ []) []) ≤ 1 = cond-both (eqb a c && eqb b d) (h ∷ []) [] (λ xs. length xs ≤ 1) (λ _. omega arith) (λ _. omega arith) in
-        let l : length (n .ways a b) < 8 = lt-from (λ full. room full) in
-        omega (arith, length-append (n .ways c d) (cond (eqb a c && eqb b d) (h ∷ []) []), ap length same)
-      where
-        lt-from : {x y : ℕ} → (y ≤ x → ⊥) → x < y
-        lt-from {x} {y} no-le = ⊎-elim (λ lt. lt) (λ le. absurd (no-le le)) (cases-lt x y)
-    go (inl e) (inr nf) = others (and-right (eqb a c) (eqb b d) (ne-eqb b d nf))
-    go (inr ne) q = others (and-left (eqb a c) (eqb b d) (ne-eqb a c ne))
+        omega (arith, less, length-append (n .ways c d) (cond (eqb a c && eqb b d) (h ∷ []) []), ap length same)
+    go (elsewhere other e) = rw (e, append-nil) (few c d)
 
 pub fit-push : (s : Size) (rs : List Record) (r : Record) → Fit s rs → Takes (drawn s rs) r → Fit s (rs ++ (r ∷ []))
 fit-push s rs r f t =

@@ -6,3 +6,4 @@ mod Misfits
 pub mod OneAnswer
 mod OneCell
 mod OneTable
+mod Pairs

@@ -1,14 +1,12 @@
 -- The network of records that fit keeps the limits of networks.
 use Prim.Native.Nat.{ℕ, _<_}
 use native.Mathlib.Omega.{arith}
-use mathlib.Core.Path.{_≡_, refl, sym, subst}
-use mathlib.Core.List.{List, [], _∷_, _++_}
-use mathlib.Core.Logic.{_⊎_, inl, inr}
-use mathlib.Core.Bool.{Bool, true, false, cond, _&&_, _||_}
+use mathlib.Core.Path.{_≡_, refl}
+use mathlib.Core.List.{List, [], _∷_}
+use mathlib.Core.Bool.{Bool, false, _&&_}
 use lib.Dec.{eqb}
-use lib.ListN.{length, getD}
 use Rattle.std.proofs.shelf.Elements.{all-append, all-getD}
-use Rattle.std.proofs.shelf.Tests.{cases-eq, ne-eqb, and-left, and-right, cond-both, cond-false}
+use Rattle.std.proofs.shelf.Tests.{cond-both, cond-false}
 use Rattle.std.specs.Joined.{joined}
 use Rattle.std.specs.shelf.Lists.{All}
 use Rattle.records.specs.declared.Record.{Record}
@@ -17,16 +15,16 @@ use Rattle.records.specs.declared.Size.{Size}
 use Rattle.networks.specs.Nets.{Net, Inside, Conditions}
 use Rattle.tables.specs.Drawn.{drawn, some, entryBy, homeBy, wayBy}
 use Rattle.tables.specs.Makes.{SizeFits, Within, Fit}
+use Rattle.tables.proofs.Pairs.{Same, here, elsewhere, same-pair}
 
 -- a record says nothing of pairs outside
 module _ (n : Net) (c d : ℕ) (out : Inside n c d → ⊥) where
   other : (a b : ℕ) → a < n .channels → b < n .places → (eqb a c && eqb b d) ≡ false
-  other a b l m = go (cases-eq a c) (cases-eq b d)
+  other a b l m = go (same-pair a b c d)
     where
-      go : (a ≡ c) ⊎ (a ≡ c → ⊥) → (b ≡ d) ⊎ (b ≡ d → ⊥) → (eqb a c && eqb b d) ≡ false
-      go (inl e) (inl f) = absurd (out (record { channel = omega arith; place = omega arith }))
-      go (inl e) (inr nf) = and-right (eqb a c) (eqb b d) (ne-eqb b d nf)
-      go (inr ne) q = and-left (eqb a c) (eqb b d) (ne-eqb a c ne)
+      go : Same a b c d → (eqb a c && eqb b d) ≡ false
+      go (here e f) = absurd (out (record { channel = omega arith; place = omega arith }))
+      go (elsewhere apart e) = e
 
   no-entry : (r : Record) → Within n r → entryBy r c d ≡ false
   no-entry (Entry a b) w = other a b (w 0 (omega arith)) (w 1 (omega arith))

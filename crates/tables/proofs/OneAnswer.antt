@@ -1,12 +1,12 @@
 -- A size and records make a table or have one fault, and never both.
-use Prim.Native.Nat.{ℕ, _+_, _<_, _≤_}
+use Prim.Native.Nat.{ℕ, _+_, _<_}
 use native.Mathlib.Omega.{arith}
 use mathlib.Core.Path.{_≡_, refl, sym, ap, _∙_, subst}
 use mathlib.Core.List.{List, [], _∷_, _++_}
 use mathlib.Core.Logic.{_⊎_, inl, inr}
 use mathlib.Core.Bool.{_&&_}
 use lib.Dec.{eqb}
-use lib.ListN.{length, getD}
+use lib.ListN.{length}
 use Rattle.std.proofs.shelf.Lists.{length-append}
 use Rattle.std.proofs.shelf.Tests.{cases-order, eq-eqb, and-from, cond-true}
 use Rattle.std.specs.Joined.{joined}
@@ -18,7 +18,7 @@ use Rattle.networks.specs.declared.faults.TableFault.{TableFault}
 use Rattle.networks.specs.declared.faults.TableFault.the-variants.{OutOfRange}
 use Rattle.networks.specs.Nets.{Net}
 use Rattle.tables.specs.Drawn.{drawn, wayBy}
-use Rattle.tables.specs.Makes.{most, SizeFits, SizeMisfit, channels, places, Within, Full, FirstOutside, Misfit, outside, ninth, Takes, Fit, Acceptable, RecordsFault, size, first, many, OneFault}
+use Rattle.tables.specs.Makes.{SizeFits, SizeMisfit, channels, places, Within, Full, FirstOutside, Misfit, outside, ninth, Takes, Fit, Acceptable, RecordsFault, size, first, many, OneFault}
 use Rattle.tables.proofs.ByRecord.{joined-append}
 
 -- two ways to part a list at an element

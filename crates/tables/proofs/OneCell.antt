@@ -1,13 +1,12 @@
 -- A cell with one way more.
 use Prim.Native.Nat.{ℕ, _+_, _<_, _≤_}
 use native.Mathlib.Omega.{arith}
-use mathlib.Core.Path.{_≡_, refl, sym, ap, _∙_}
-use mathlib.Core.List.{List, [], _∷_, _++_}
+use mathlib.Core.Path.{_≡_, sym, _∙_}
+use mathlib.Core.List.{[], _∷_, _++_}
 use mathlib.Core.Logic.{_≢_, _⊎_, inl, inr}
-use lib.ListN.{length, getD, set, take, length-set}
+use lib.ListN.{length, getD, set, length-set}
 use Rattle.std.proofs.shelf.Lists.{take-more-set, getD-set-same, getD-set-other, getD-take, length-take-le}
 use Rattle.std.proofs.shelf.Tests.{cases-eq}
-use Rattle.networks.specs.Nets.{WayAt}
 use Rattle.tables.specs.declared.cell.Cell.{Cell}
 use Rattle.tables.specs.Cells.{Sound, waysOf, withWay}
 

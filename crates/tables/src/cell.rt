@@ -1,10 +1,5 @@
 //! What a table holds of a pair.
 
-ghost use mathlib.Core.Path.{_≡_};
-ghost use mathlib.Core.List.{[], _∷_, _++_};
-ghost use mathlib.Core.Bool.{true};
-ghost use Prim.Native.Nat.{ℕ, _+_, _<_};
-
 /// Whether the pair is an entry, whether it is home, and its ways, of which the first `count` count.
 #[derive(Clone, Copy)]
 pub struct Cell {

@@ -1,7 +1,7 @@
 //! Changes of a cell.
 
 ghost use mathlib.Core.Path.{_≡_};
-ghost use Prim.Native.Nat.{ℕ, _+_, _<_, _≤_};
+ghost use Prim.Native.Nat.{_+_, _<_, _≤_};
 ghost use lib.ListN.{length};
 ghost use Rattle.networks.specs.Nets.{WayAt};
 ghost use Rattle.tables.specs.Cells.{waysOf, asEntry, asHome, withWay};

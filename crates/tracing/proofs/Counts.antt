@@ -1,15 +1,15 @@
 -- How many pairs are allowed.
-use Prim.Native.Nat.{ℕ, _+_, _*_, _/_, _%_, _≤_, _<_}
+use Prim.Native.Nat.{ℕ, _/_, _%_, _≤_, _<_}
 use native.Mathlib.Omega.{arith}
 use mathlib.Core.Path.{_≡_, sym, ap, _∙_, subst}
 use mathlib.Core.List.{List}
-use mathlib.Core.Logic.{_⊎_, inl, inr}
+use mathlib.Core.Logic.{inl, inr}
 use lib.Dec.{eqb}
 use lib.ListN.{length, getD, take}
 use Rattle.std.proofs.shelf.Bits.{div-add-mod'}
 use Rattle.std.proofs.shelf.Lists.{ext-getD, getD-take, length-take-le}
 use Rattle.std.specs.shelf.Lists.{countBy}
-use Rattle.networks.specs.Allowed.{Allowed, pairs, position}
+use Rattle.networks.specs.Allowed.{pairs}
 use Rattle.networks.specs.Nets.{Net, Conditions}
 use Rattle.tracing.specs.Traces.{Tells, Traced, AllowedPairs}
 use Rattle.tracing.proofs.Positions.{channel-below, place-below}

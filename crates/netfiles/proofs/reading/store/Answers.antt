@@ -1,6 +1,4 @@
-use Prim.Native.Nat.{_<_}
 use native.Mathlib.Omega.{arith}
-use lib.ListN.{length}
 use borrow.Author.Needs.{needs}
 use Rattle.netfiles.proofs.Stores.{begins, room, goes-on, no-fault, done}
 use Rattle.netfiles.proofs.reading.store.Needs as need

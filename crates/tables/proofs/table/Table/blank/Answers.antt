@@ -1,5 +1,4 @@
-use native.Mathlib.Omega.{arith}
-use mathlib.Core.Path.{_∙_, ap}
+use mathlib.Core.Path.{_∙_}
 use Prim.Native.Nat.{_*_}
 use Rattle.tables.proofs.ByRecord.{blank-at, blank-net, blank-room, blank-few, blank-inside}
 use Rattle.tables.proofs.table.Table.blank.Needs as need
