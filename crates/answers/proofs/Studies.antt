@@ -56,8 +56,8 @@ module _ (input : List ℕ) (short : length input ≤ 32768) (before : List Reco
     acceptable : Acceptable (a .size) (r .0)
     acceptable = record { size = accepted .size; fit = accepted .fit; few = let l = accepted .few in omega arith }
 
-    pub too-large : (Fits (a .size) → ⊥) → Rejects input (Short File) ⊎ (Short File ≡ Table NoMemory)
-    too-large h = inl (large short (a .size) (r .0) accepted h refl)
+    pub too-large : (f : StudyFault) → (Fits (a .size) → ⊥) → f ≡ Short File → Rejects input f
+    too-large f h e = large short (a .size) (r .0) accepted h e
 
     pub unmade : (t : TableFault) → RecordsFault (a .size) (take (a .records - 0) after) t ⊎ (SizeFits (a .size) × (t ≡ NoMemory)) → Rejects input (Table t) ⊎ (Table t ≡ Table NoMemory)
     unmade t (inl x) = absurd (one-fault (a .size) (r .0) .never-both t acceptable (subst (λ (rs : List Record). RecordsFault (a .size) rs t) listed x))

@@ -5,13 +5,14 @@ ghost use mathlib.Core.Logic.{_⊎_};
 ghost use Rattle.std.specs.Of.String.{string-bytes};
 ghost use Rattle.std.specs.Results.{Cases};
 ghost use Rattle.std.specs.Vec.{made};
+ghost use Rattle.networks.specs.declared.faults.Buffer.the-variants.{File};
 ghost use Rattle.networks.specs.declared.faults.StudyFault.the-variants as study;
 ghost use Rattle.networks.specs.declared.faults.TableFault.the-variants.{NoMemory};
 ghost use Rattle.networks.specs.Faults.{studyParts};
 ghost use Rattle.answers.specs.Prints.{faultLine, readLine, Fits, Holds, Rejects, Answered};
 ghost use Rattle.tables.specs.Meaning.{meaningOf};
 ghost use Rattle.tracing.specs.Traces.{AllowedPairs};
-use netfiles::reading::read_network;
+use netfiles::read_network;
 use networks::faults::Buffer;
 use networks::faults::StudyFault;
 use networks::faults::StudyFromTable;
@@ -19,8 +20,8 @@ use records::Record;
 use records::Size;
 use std::alloc::AllocError;
 use std::alloc::Global;
-use tables::questions::TableNetwork;
-use tables::table::Table;
+use tables::Table;
+use tables::TableNetwork;
 use tracing::trace;
 
 /// How many bytes of input are read at most.
@@ -65,6 +66,16 @@ fn read_line(heap: Global, contents: Contents) -> Result<String, AllocError>
     format!(heap, "read\t{channels}\t{places}\t{records}\t{allowed}\n")
 }
 
+// Refuses a network that is too large.
+fn check_size(size: Size) -> Result<(), StudyFault>
+    ensures { λ r. ⌜ Cases r (λ _. Fits size) (λ f. (Fits size → ⊥) × (f ≡ study.Short File)) ⌝ }
+{
+    if size.channels > MAX_CHANNELS || size.places > MAX_PLACES {
+        return Err(StudyFault::Short(Buffer::File));
+    }
+    Ok(())
+}
+
 // How many pairs of a network that is not too large are allowed.
 fn count_allowed(table: &Table) -> Result<usize, StudyFault>
     requires { ⌜ Fits (record { channels = now table .channels; places = now table .places }) ⌝ }
@@ -91,9 +102,7 @@ fn study(heap: Global, input: &[u8]) -> Result<Contents, StudyFault>
     let summary = read_network(heap, input, &mut list)?;
     let size = summary.size;
     let records = summary.records;
-    if size.channels > MAX_CHANNELS || size.places > MAX_PLACES {
-        return Err(StudyFault::Short(Buffer::File));
-    }
+    check_size(size)?;
     let table = Table::new(heap, size, &list[0..records])?;
     let allowed = count_allowed(&table)?;
     Ok(Contents {

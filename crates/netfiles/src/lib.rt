@@ -1,4 +1,7 @@
 //! Network files read into lists of records, and written from them.
 
-pub mod reading;
-pub mod writing;
+mod reading;
+mod writing;
+
+pub use crate::reading::read_network;
+pub use crate::writing::write_network;

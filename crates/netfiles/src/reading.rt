@@ -3,20 +3,33 @@
 ghost use mathlib.Core.Path.{_≡_};
 ghost use mathlib.Core.List.{List, _++_};
 ghost use mathlib.Core.Logic.{_⊎_};
+ghost use Prim.Native.Nat.{_+_, _<_, _≤_};
 ghost use lib.ListN.{length, drop};
 ghost use Rattle.std.specs.Results.{Cases};
 ghost use Rattle.records.specs.declared.Record.{Record};
 ghost use Rattle.records.specs.declared.Size.{Size};
 ghost use Rattle.files.specs.Says.{Reads};
-ghost use Rattle.netfiles.specs.Reading.{Accepted, Refused, Wanting, Storable, Reading, OneReading};
+ghost use Rattle.networks.specs.declared.faults.TableFault.the-variants.{TooManyRecords};
+ghost use Rattle.netfiles.specs.Reading.{limit, Accepted, Refused, Wanting, Storable, Reading, OneReading};
 use files::judging::Summary;
 use files::reading::Reader;
 use networks::faults::TableFault;
 use networks::faults::TableFromText;
 use records::Record;
 use std::alloc::Global;
-use tables::making::MAX_RECORDS;
-use tables::table::Table;
+use tables::MAX_RECORDS;
+use tables::Table;
+
+// Refuses more records than go into a list with room for so many.
+fn check_count(count: usize, room: usize) -> Result<(), TableFault>
+    ensures { λ r. ⌜ Cases r (λ _. count ≤ limit room) (λ f. (limit room < count) × (f ≡ TooManyRecords (limit room + 2))) ⌝ }
+{
+    let most = room.min(MAX_RECORDS);
+    if count > most {
+        return Err(TableFault::TooManyRecords { line: most + 2 });
+    }
+    Ok(())
+}
 
 // Judges a file whose records are to go into a list with room for so many: the size and the number of records, or the fault.
 fn judge_file(heap: Global, file: &[u8], room: usize) -> Result<Summary, TableFault>
@@ -32,10 +45,7 @@ fn judge_file(heap: Global, file: &[u8], room: usize) -> Result<Summary, TableFa
         table.add(reader.line(), record)?;
         records += 1;
     }
-    let limit = room.min(MAX_RECORDS);
-    if records > limit {
-        return Err(TableFault::TooManyRecords { line: limit + 2 });
-    }
+    check_count(records, room)?;
     Ok(Summary { size, records })
 }
 

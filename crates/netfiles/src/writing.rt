@@ -1,9 +1,12 @@
 //! Writing a size and records as a network file.
 
 ghost use mathlib.Core.Path.{_≡_};
-ghost use Prim.Native.Nat.{_+_, _≤_};
+ghost use Prim.Native.Nat.{_+_, _<_, _≤_};
 ghost use lib.ListN.{length};
 ghost use Rattle.std.specs.Joined.{joined};
+ghost use Rattle.std.specs.Results.{Cases};
+ghost use Rattle.networks.specs.declared.faults.Buffer.the-variants.{File};
+ghost use Rattle.networks.specs.declared.faults.StudyFault.the-variants.{Short};
 ghost use Rattle.records.specs.Rendering.{fileText, finished, recordText, AllSmall};
 ghost use Rattle.records.specs.Writes.{Wrote};
 ghost use Rattle.tables.specs.Makes.{most};
@@ -14,7 +17,7 @@ use networks::faults::StudyFromTable;
 use records::Record;
 use records::Size;
 use std::alloc::Global;
-use tables::table::Table;
+use tables::Table;
 
 // How many bytes the file takes.
 fn text_len(size: Size, records: &[Record]) -> usize
@@ -26,6 +29,16 @@ fn text_len(size: Size, records: &[Record]) -> usize
         len += record.text_len();
     }
     len
+}
+
+// Refuses a file that is shorter than what is to be written.
+fn check_room(room: usize, len: usize) -> Result<(), StudyFault>
+    ensures { λ r. ⌜ Cases r (λ _. len ≤ room) (λ f. (room < len) × (f ≡ Short File)) ⌝ }
+{
+    if room < len {
+        return Err(StudyFault::Short(Buffer::File));
+    }
+    Ok(())
 }
 
 // Writes each record's line behind the one before, from `at` on, and answers where the last one ends.
@@ -57,10 +70,7 @@ pub fn write_network(
     // making the table judges the records
     let table = Table::new(heap, size, records)?;
     drop(table);
-    let len = text_len(size, records);
-    if file.len() < len {
-        return Err(StudyFault::Short(Buffer::File));
-    }
+    check_room(file.len(), text_len(size, records))?;
     let Ok(end) = size.write(file, 0) else {
         unreachable()
     };

@@ -21,13 +21,23 @@ pub record Inside (n : Net) (c d : ℕ) : Type 0 where
   pub channel : c < n .channels
   pub place : d < n .places
 
+-- how many channels and places a network has at most, and how many ways a pair
+abbrev pub most-channels : ℕ
+most-channels = 1024
+
+abbrev pub most-places : ℕ
+most-places = 256
+
+abbrev pub most-ways : ℕ
+most-ways = 8
+
 -- What every source of networks shows of those it gives.
 pub record Conditions (n : Net) : Type 0 where
   pub some-channel : 1 ≤ n .channels
-  pub few-channels : n .channels ≤ 1024
+  pub few-channels : n .channels ≤ most-channels
   pub some-place : 1 ≤ n .places
-  pub few-places : n .places ≤ 256
-  pub few-ways : (c d : ℕ) → length (n .ways c d) ≤ 8
+  pub few-places : n .places ≤ most-places
+  pub few-ways : (c d : ℕ) → length (n .ways c d) ≤ most-ways
   pub ways-inside : (c d k : ℕ) → k < length (n .ways c d) → getD (n .ways c d) k 0 < n .channels
   pub outside : (c d : ℕ) → (Inside n c d → ⊥) → (n .entry c d ≡ false) × (n .home c d ≡ false) × (n .ways c d ≡ [])
 

@@ -5,11 +5,11 @@ use mathlib.Core.List.{List, []}
 use mathlib.Core.Bool.{Bool, true, false, cond, _&&_}
 use lib.Dec.{ltb}
 use lib.ListN.{length, getD, set, take, replicate}
-use Rattle.networks.specs.Nets.{Net}
+use Rattle.networks.specs.Nets.{Net, most-ways}
 use Rattle.tables.specs.declared.cell.Cell.{Cell}
 
 abbrev pub blank : Cell
-blank = record { entry = false; home = false; count = 0; ways = replicate 8 0 }
+blank = record { entry = false; home = false; count = 0; ways = replicate most-ways 0 }
 
 -- the ways that a cell holds
 abbrev pub waysOf : Cell → List ℕ
@@ -25,10 +25,10 @@ asEntry x = record { entry = true; home = x .home; count = x .count; ways = x .w
 abbrev pub asHome : Cell → Cell
 asHome x = record { entry = x .entry; home = true; count = x .count; ways = x .ways }
 
--- Room for eight ways, and at most as many, each below the number of channels.
+-- Room for all the ways that there may be, and at most as many, each below the number of channels.
 pub record Sound (channels : ℕ) (x : Cell) : Type 0 where
-  pub room : length (x .ways) ≡ 8
-  pub few : x .count ≤ 8
+  pub room : length (x .ways) ≡ most-ways
+  pub few : x .count ≤ most-ways
   pub inside : (k : ℕ) → k < x .count → getD (x .ways) k 0 < channels
 
 abbrev pub inside : ℕ → ℕ → ℕ → ℕ → Bool

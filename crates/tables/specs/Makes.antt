@@ -13,7 +13,7 @@ use Rattle.records.specs.declared.Size.{Size}
 use Rattle.records.specs.Rendering.{numbersOf}
 use Rattle.networks.specs.declared.faults.TableFault.{TableFault}
 use Rattle.networks.specs.declared.faults.TableFault.the-variants.{SizeOutOfLimits, OutOfRange, NinthWay, TooManyRecords, NoMemory}
-use Rattle.networks.specs.Nets.{Net}
+use Rattle.networks.specs.Nets.{Net, most-channels, most-places, most-ways}
 use Rattle.tables.specs.declared.table.Table.{Table}
 use Rattle.tables.specs.Drawn.{drawn, adding}
 use Rattle.tables.specs.Meaning.{meaningOf}
@@ -25,14 +25,14 @@ most = 65535
 -- The size is one of a network.
 pub record SizeFits (s : Size) : Type 0 where
   pub some-channel : 1 ≤ s .channels
-  pub few-channels : s .channels ≤ 1024
+  pub few-channels : s .channels ≤ most-channels
   pub some-place : 1 ≤ s .places
-  pub few-places : s .places ≤ 256
+  pub few-places : s .places ≤ most-places
 
 -- The fault of a size names the first field that is outside its limits.
 pub data SizeMisfit (s : Size) (f : TableFault) : Type 0 where
-  channels : ((1 ≤ s .channels) × (s .channels ≤ 1024) → ⊥) → f ≡ SizeOutOfLimits 2 → SizeMisfit s f
-  places : 1 ≤ s .channels → s .channels ≤ 1024 → ((1 ≤ s .places) × (s .places ≤ 256) → ⊥) → f ≡ SizeOutOfLimits 3 → SizeMisfit s f
+  channels : ((1 ≤ s .channels) × (s .channels ≤ most-channels) → ⊥) → f ≡ SizeOutOfLimits 2 → SizeMisfit s f
+  places : 1 ≤ s .channels → s .channels ≤ most-channels → ((1 ≤ s .places) × (s .places ≤ most-places) → ⊥) → f ≡ SizeOutOfLimits 3 → SizeMisfit s f
 
 -- the counts that the numbers of a record have to be below
 abbrev pub countsFor : Net → Record → List ℕ
@@ -55,11 +55,11 @@ pub record FirstOutside (n : Net) (r : Record) (i : ℕ) : Type 0 where
   pub outside : Below n r at → ⊥
   pub before : (k : ℕ) → k < at → Below n r k
 
--- the record adds a way to a pair that has eight of them
+-- the record adds a way to a pair that has as many as it may have
 abbrev pub Full : Net → Record → Type 0
 Full n (Entry c d) = ⊥
 Full n (Home c d) = ⊥
-Full n (Way c d h) = 8 ≤ length (n .ways c d)
+Full n (Way c d h) = most-ways ≤ length (n .ways c d)
 
 -- The network takes the record.
 pub record Takes (n : Net) (r : Record) : Type 0 where
@@ -71,10 +71,10 @@ pub data Misfit (n : Net) (line : ℕ) (r : Record) (f : TableFault) : Type 0 wh
   outside : (i : ℕ) → FirstOutside n r i → f ≡ OutOfRange line i → Misfit n line r f
   ninth : Within n r → Full n r → f ≡ NinthWay line → Misfit n line r f
 
--- All numbers of the records are below their counts, and no pair has more than eight ways.
+-- All numbers of the records are below their counts, and no pair has more ways than it may have.
 pub record Fit (s : Size) (rs : List Record) : Type 0 where
   pub within : All (Within (drawn s rs)) rs
-  pub few : (c d : ℕ) → length (drawn s rs .ways c d) ≤ 8
+  pub few : (c d : ℕ) → length (drawn s rs .ways c d) ≤ most-ways
 
 -- The size and the records make a table.
 pub record Acceptable (s : Size) (rs : List Record) : Type 0 where

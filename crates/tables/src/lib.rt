@@ -1,7 +1,11 @@
 //! Networks as tables: a cell for each pair, made from records.
 
-pub mod cell;
-pub mod making;
+mod cell;
+mod making;
 mod marks;
-pub mod questions;
-pub mod table;
+mod questions;
+mod table;
+
+pub use crate::making::MAX_RECORDS;
+pub use crate::questions::TableNetwork;
+pub use crate::table::Table;

@@ -2,14 +2,14 @@
 
 ghost use mathlib.Core.Path.{_≡_};
 ghost use mathlib.Core.Logic.{_⊎_};
-ghost use Prim.Native.Nat.{_+_, _*_, _<_, _≤_};
+ghost use Prim.Native.Nat.{_+_, _*_, _^_, _<_, _≤_};
 ghost use lib.ListN.{replicate, set};
 ghost use Rattle.std.specs.Of.Vec.{vec-items, vec-len};
 ghost use Rattle.std.specs.Results.{Cases};
 ghost use Rattle.std.specs.Vec.{made};
-ghost use Rattle.networks.specs.declared.faults.TableFault.the-variants.{OutOfRange};
+ghost use Rattle.networks.specs.declared.faults.TableFault.the-variants.{OutOfRange, TooManyRecords};
 ghost use Rattle.tables.specs.Cells.{blank, Sound};
-ghost use Rattle.tables.specs.Makes.{SizeFits, SizeMisfit, Begins, Adds, Makes, OneFault};
+ghost use Rattle.tables.specs.Makes.{most, SizeFits, SizeMisfit, Begins, Adds, Makes, OneFault};
 ghost use Rattle.tables.specs.Meaning.{meaningOf};
 use crate::cell::Cell;
 use crate::table::Table;
@@ -42,6 +42,26 @@ fn check_size(size: Size) -> Result<(), TableFault>
         return Err(TableFault::SizeOutOfLimits { field: 3 });
     }
     Ok(())
+}
+
+// Refuses more records than a table takes.
+fn check_count(count: usize) -> Result<(), TableFault>
+    ensures { λ r. ⌜ Cases r (λ _. count ≤ most) (λ f. (most < count) × (f ≡ TooManyRecords (most + 2))) ⌝ }
+{
+    if count > MAX_RECORDS {
+        return Err(TableFault::TooManyRecords {
+            line: MAX_RECORDS + 2,
+        });
+    }
+    Ok(())
+}
+
+// The line that the record at a position of a list would have in a file.
+fn line_of(position: usize) -> usize
+    requires { ⌜ position < 2 ^ 63 ⌝ }
+    ensures { λ r. ⌜ r ≡ position + 2 ⌝ }
+{
+    position + 2
 }
 
 // As many cells of which nothing is said.
@@ -133,13 +153,9 @@ impl Table {
     {
         let mut table = Table::blank(heap, size)?;
         for (position, record) in records.iter().enumerate() {
-            table.add(position + 2, *record)?;
+            table.add(line_of(position), *record)?;
         }
-        if records.len() > MAX_RECORDS {
-            return Err(TableFault::TooManyRecords {
-                line: MAX_RECORDS + 2,
-            });
-        }
+        check_count(records.len())?;
         Ok(table)
     }
 }

@@ -3,7 +3,7 @@
 ghost use mathlib.Core.Path.{_≡_};
 ghost use Prim.Native.Nat.{_+_, _<_, _≤_};
 ghost use lib.ListN.{length};
-ghost use Rattle.networks.specs.Nets.{WayAt};
+ghost use Rattle.networks.specs.Nets.{WayAt, most-ways};
 ghost use Rattle.tables.specs.Cells.{waysOf, asEntry, asHome, withWay};
 use crate::cell::Cell;
 
@@ -33,7 +33,7 @@ impl Cell {
 
     // The cell with one way more.
     pub(super) fn with_way(self, next: u16) -> Cell
-        requires { ⌜ self .count < 8 ⌝ }
+        requires { ⌜ self .count < most-ways ⌝ }
         ensures { λ r. ⌜ r ≡ withWay self next ⌝ }
     {
         let mut ways = self.ways;
@@ -47,8 +47,8 @@ impl Cell {
 
     // The way at a position.
     pub(super) fn way(self, position: usize) -> Option<u16>
-        requires few { ⌜ self .count ≤ 8 ⌝ }
-        requires room { ⌜ length (self .ways) ≡ 8 ⌝ }
+        requires few { ⌜ self .count ≤ most-ways ⌝ }
+        requires room { ⌜ length (self .ways) ≡ most-ways ⌝ }
         ensures { λ r. ⌜ WayAt (waysOf self) position r ⌝ }
     {
         if position < usize::from(self.count) {

@@ -4,6 +4,7 @@ ghost use mathlib.Core.Path.{_≡_};
 ghost use Prim.Native.Nat.{ℕ, _*_, _≤_, _<_};
 ghost use lib.ListN.{length, getD};
 ghost use Rattle.std.specs.Of.Vec.{vec-items, vec-len};
+ghost use Rattle.networks.specs.Nets.{most-channels, most-places, most-ways};
 ghost use Rattle.tables.specs.Cells.{blank};
 use crate::cell::Cell;
 
@@ -14,12 +15,12 @@ pub struct Table {
     // row by row: cell c * places + d is that of channel c and place d
     pub(super) cells: Vec<Cell>,
     ghost some_channel: { 1 ≤ channels },
-    ghost few_channels: { channels ≤ 1024 },
+    ghost few_channels: { channels ≤ most-channels },
     ghost some_place: { 1 ≤ places },
-    ghost few_places: { places ≤ 256 },
+    ghost few_places: { places ≤ most-places },
     ghost whole: { vec-len cells ≡ channels * places },
-    ghost room: { (k : ℕ) → k < vec-len cells → length (getD (vec-items cells) k blank .ways) ≡ 8 },
-    ghost few_ways: { (k : ℕ) → k < vec-len cells → getD (vec-items cells) k blank .count ≤ 8 },
+    ghost room: { (k : ℕ) → k < vec-len cells → length (getD (vec-items cells) k blank .ways) ≡ most-ways },
+    ghost few_ways: { (k : ℕ) → k < vec-len cells → getD (vec-items cells) k blank .count ≤ most-ways },
     ghost ways_inside: { (k j : ℕ) → k < vec-len cells → j < getD (vec-items cells) k blank .count → getD (getD (vec-items cells) k blank .ways) j 0 < channels },
 }
 

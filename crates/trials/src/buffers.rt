@@ -16,8 +16,8 @@ use records::Size;
 use spidergon::Spidergon;
 use spidergon::SpidergonNetwork;
 use std::alloc::Global;
-use tables::questions::TableNetwork;
-use tables::table::Table;
+use tables::Table;
+use tables::TableNetwork;
 
 // The sizes of the Spidergons that are traced, the largest among them.
 const RINGS: [u16; 2] = [3, 64];

@@ -18,8 +18,8 @@ use spidergon::SpidergonNetwork;
 use std::alloc::AllocError;
 use std::alloc::Global;
 use std::fmt;
-use tables::questions::TableNetwork;
-use tables::table::Table;
+use tables::Table;
+use tables::TableNetwork;
 
 // The largest size of a table.
 const CHANNELS: u16 = 1024;

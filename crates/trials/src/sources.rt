@@ -17,8 +17,8 @@ use spidergon::Spidergon;
 use spidergon::SpidergonNetwork;
 use std::alloc::AllocError;
 use std::alloc::Global;
-use tables::questions::TableNetwork;
-use tables::table::Table;
+use tables::Table;
+use tables::TableNetwork;
 
 // The largest Spidergon whose records a table takes.
 const LARGEST: u16 = 28;

@@ -1,8 +1,5 @@
 use native.Mathlib.Omega.{arith}
 use mathlib.Core.Logic.{inl}
-use mathlib.Core.Path.{ap}
-use Prim.Native.Nat.{_+_}
-use Rattle.networks.specs.declared.faults.TableFault.the-variants.{TooManyRecords}
 use Rattle.std.proofs.shelf.Results.{err-from-errBy}
 use Rattle.files.proofs.LineByLine.{say-same-length}
 use Rattle.netfiles.proofs.ByLine.{size-refused, blank-refused, begins, text-refused, record-refused, goes-on, accepted, too-many}
@@ -45,12 +42,14 @@ loop-table-again c =
     let e = c .in-Continue-add .ensures tt in
     goes-on (c .args .file .now) 0 (c .in-Continue-size .size) (c .loop-table .records) _ _ _ _ (c .loop-table .table) (c .loop-table .inv) (c .in-Some .record) (c .add .last .self) next (e .0) (e .1)
 
-pub returns-then-records-limit : need.returns-then-records-limit
-returns-then-records-limit c =
+pub returns-in-Break-check-count : need.returns-in-Break-check-count
+returns-in-Break-check-count c =
+    let p = err-from-errBy (c .from-residual-in-Break-check-count .result) (c .from-residual-in-Break-check-count .ensures .1) in
     let next = rw (c .in-rest .is) at (c .in-Continue-record .ensures tt .next) in
-    inl (too-many (c .args .file .now) (c .args .room) (c .in-Continue-size .size) (c .loop-table .records) _ _ _ _ (c .loop-table .table) (c .loop-table .inv) _ next (rw (c .min-limit .ensures) at (c .if-records-limit .taken)) (ap (λ k. TooManyRecords (k + 2)) (c .min-limit .ensures)))
+    let e = c .in-Break-check-count .ensures tt in
+    rw (p .1, p .2) (inl (too-many (c .args .file .now) (c .args .room) (c .in-Continue-size .size) (c .loop-table .records) _ _ _ _ (c .loop-table .table) (c .loop-table .inv) _ next (e .0) (e .1)))
 
 pub returns : need.returns
 returns c =
     let next = rw (c .in-rest .is) at (c .in-Continue-record .ensures tt .next) in
-    accepted (c .args .file .now) (c .args .room) (c .in-Continue-size .size) (c .loop-table .records) _ _ _ _ (c .loop-table .table) (c .loop-table .inv) next (rw (c .min-limit .ensures) at (c .if-records-limit .left))
+    accepted (c .args .file .now) (c .args .room) (c .in-Continue-size .size) (c .loop-table .records) _ _ _ _ (c .loop-table .table) (c .loop-table .inv) next (c .in-Continue-check-count .ensures tt)

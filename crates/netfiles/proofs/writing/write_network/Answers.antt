@@ -11,13 +11,13 @@ returns-in-Break-table c =
 
 pub unreachable-requires : need.unreachable-requires
 unreachable-requires c κs =
-    size-surely (c .args .size) (c .args .records .now) (c .args .file .now) (c .write .last .out) (c .in-rest .field-0) (c .in-Continue-table .ensures tt .makes .0) (omega (arith, c .if-file-len .left, c .text-len-len .ensures)) (c .in-rest .ensures tt)
+    size-surely (c .args .size) (c .args .records .now) (c .args .file .now) (c .write .last .out) (c .in-rest .field-0) (c .in-Continue-table .ensures tt .makes .0) (omega (arith, c .in-Continue-check-room .ensures tt, c .text-len .ensures)) (c .in-rest .ensures tt)
 
 pub write-records-requires : need.write-records-requires
 write-records-requires c κs =
     record {
       small = all-small (c .args .size) (c .args .records .now) (c .in-Continue-table .ensures tt .makes .0);
-      room = records-room (c .args .size) (c .args .records .now) (c .args .file .now) (c .write .last .out) (c .in-Ok .end) (omega (arith, c .if-file-len .left, c .text-len-len .ensures)) (omega arith) (c .in-Ok .ensures tt .1);
+      room = records-room (c .args .size) (c .args .records .now) (c .args .file .now) (c .write .last .out) (c .in-Ok .end) (omega (arith, c .in-Continue-check-room .ensures tt, c .text-len .ensures)) (omega arith) (c .in-Ok .ensures tt .1);
     }
 
 pub returns : need.returns
