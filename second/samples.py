@@ -9,7 +9,7 @@ from pathlib import Path
 
 sys.dont_write_bytecode = True
 from expected import EXPECTED
-from netcheck import answer, text_in_order
+from netcheck import answer, judge, text_in_order
 
 SAMPLES = Path(__file__).resolve().parent.parent / "crates" / "samples"
 
@@ -32,12 +32,14 @@ def main():
 
     files = sorted((SAMPLES / "data").iterdir(), key=lambda file: file.name)
     answers = {file.name: answer(file.read_bytes()) for file in files}
-    # The sample program writes anew whatever has its text in order, be its numbers in range or not.
-    written = sum(text_in_order(file.read_bytes()) for file in files)
+    # The sample program writes anew every text that is in order, be its numbers in range or not, and every accepted network.
+    texts = sum(text_in_order(file.read_bytes()) for file in files)
+    networks = sum(judge(file.read_bytes()) is None for file in files)
     outputs = {
         "args": b"".join(name.encode("ascii") + b"\n" for name in answers),
         "stdout": b"".join(name.encode("ascii") + b": " + line for name, line in answers.items())
-        + b"%d files written anew: %d the same, %d refused for want of a byte\n" % (written, written, written),
+        + b"".join(b"%d %s written anew: %d the same, %d refused for want of a byte\n" % (count, what, count, count)
+                   for count, what in ((texts, b"texts"), (networks, b"networks"))),
     }
 
     problems = list(table_problems(answers))
