@@ -7,7 +7,6 @@ use mathlib.Core.Logic.{_⊎_, inl, inr}
 use lib.ListN.{length}
 use Rattle.networks.specs.declared.faults.StudyFault.{StudyFault}
 use Rattle.networks.specs.declared.faults.StudyFault.the-variants.{Table}
-use Rattle.networks.specs.declared.faults.TableFault.the-variants.{NoMemory}
 use Rattle.networks.specs.Faults.{studyParts}
 use Rattle.networks.specs.Nets.{Net}
 use Rattle.tables.specs.Drawn.{drawn}
@@ -16,7 +15,7 @@ use Rattle.netfiles.proofs.Readings.{one-reading}
 use Rattle.tracing.specs.Traces.{AllowedPairs}
 use Rattle.tracing.proofs.Counts.{allowed-one}
 use Rattle.answers.specs.declared.Contents.{Contents}
-use Rattle.answers.specs.Prints.{faultLine, readLine, Fits, Holds, Rejects, long, refused, large, Prints, holds, rejects, Answered}
+use Rattle.answers.specs.Prints.{faultLine, readLine, Fits, Holds, Rejects, long, refused, large, Prints, holds, rejects, Starves, Answered}
 
 module _ (input : List ℕ) where
   -- an input that is taken holds one network
@@ -60,10 +59,10 @@ module _ (input : List ℕ) where
         one other (holds b y d) = d ∙ ap (λ (z : Contents). readLine (z .size) (z .records) (z .allowed)) (holds-one b a y x) ∙ sym e
         one other (rejects f y d) = absurd (holds-or-rejects a f x y)
 
-    pub rejected : (f : StudyFault) → Rejects input f ⊎ (f ≡ Table NoMemory) → text ≡ faultLine (studyParts f) → Answered input text
+    pub rejected : (f : StudyFault) → Rejects input f ⊎ Starves input f → text ≡ faultLine (studyParts f) → Answered input text
     rejected f (inl x) e = inl (record { prints = rejects f x e; only = one })
       where
         one : (other : List ℕ) → Prints input other → other ≡ text
         one other (holds b y d) = absurd (holds-or-rejects b f y x)
         one other (rejects g y d) = d ∙ ap (λ z. faultLine (studyParts z)) (rejects-one g f y x) ∙ sym e
-    rejected f (inr x) e = inr (e ∙ ap (λ z. faultLine (studyParts z)) x)
+    rejected f (inr x) e = inr (subst (Starves input) (x .fault) x, e ∙ ap (λ z. faultLine (studyParts z)) (x .fault))

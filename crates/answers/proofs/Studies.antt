@@ -22,11 +22,12 @@ use Rattle.networks.specs.Nets.{Net}
 use Rattle.tables.specs.Drawn.{drawn}
 use Rattle.tables.specs.Makes.{SizeFits, Acceptable, RecordsFault}
 use Rattle.tables.proofs.OneAnswer.{one-fault}
+use Rattle.netfiles.proofs.Readings.{accepted-wanting}
 use Rattle.netfiles.specs.Reading.{Accepted, Refused, Wanting, Reading}
 use Rattle.tracing.specs.Traces.{Traces, AllowedPairs}
 use Rattle.tracing.proofs.Counts.{counts-allowed}
 use Rattle.tracing.proofs.Queueing.{rooms-suffice}
-use Rattle.answers.specs.Prints.{Fits, Holds, Rejects, refused, large}
+use Rattle.answers.specs.Prints.{Fits, Holds, Rejects, refused, large, Starves}
 
 -- A small network fits the buffers.
 pub counted : (n : Net) (before : List ℕ) (work : ℕ) (r : Result ℕ StudyFault) (after : List ℕ) → n .channels ≤ 128 → n .places ≤ 32 → length before ≡ 4096 → work ≡ 4096 → length after ≡ length before → Traces n before work r after → Cases r (λ k. AllowedPairs n k) (λ f. ⊥)
@@ -39,12 +40,12 @@ counted n before work (Err f) after c p room words same t =
     omega arith
 
 module _ (input : List ℕ) (short : length input ≤ 32768) (before : List Record) (room : length before ≡ 2048) where
-  pub unread : (t : TableFault) (after : List Record) → Reading input before (Err t) after → Rejects input (Table t) ⊎ (Table t ≡ Table NoMemory)
+  pub unread : (t : TableFault) (after : List Record) → Reading input before (Err t) after → Rejects input (Table t) ⊎ Starves input (Table t)
   unread t after r = go (r .0)
     where
-      go : Refused input (length before) t ⊎ Wanting input t → Rejects input (Table t) ⊎ (Table t ≡ Table NoMemory)
+      go : Refused input (length before) t ⊎ Wanting input t → Rejects input (Table t) ⊎ Starves input (Table t)
       go (inl x) = inl (refused short t (subst (λ (k : ℕ). Refused input k t) room x) refl)
-      go (inr x) = inr (ap Table (x .fault))
+      go (inr x) = inr (record { short = short; wanting = subst (Wanting input) (x .fault) x; fault = ap Table (x .fault) })
 
   module _ (a : Summary) (after : List Record) (r : Reading input before (Ok a) after) where
     accepted : Accepted input 2048 (a .size) (r .0)
@@ -59,9 +60,9 @@ module _ (input : List ℕ) (short : length input ≤ 32768) (before : List Reco
     pub too-large : (f : StudyFault) → (Fits (a .size) → ⊥) → f ≡ Short File → Rejects input f
     too-large f h e = large short (a .size) (r .0) accepted h e
 
-    pub unmade : (t : TableFault) → RecordsFault (a .size) (take (a .records - 0) after) t ⊎ (SizeFits (a .size) × (t ≡ NoMemory)) → Rejects input (Table t) ⊎ (Table t ≡ Table NoMemory)
+    pub unmade : (t : TableFault) → RecordsFault (a .size) (take (a .records - 0) after) t ⊎ (SizeFits (a .size) × (t ≡ NoMemory)) → Rejects input (Table t) ⊎ Starves input (Table t)
     unmade t (inl x) = absurd (one-fault (a .size) (r .0) .never-both t acceptable (subst (λ (rs : List Record). RecordsFault (a .size) rs t) listed x))
-    unmade t (inr x) = inr (ap Table (x .1))
+    unmade t (inr x) = inr (record { short = short; wanting = accepted-wanting input 2048 (a .size) (r .0) accepted; fault = ap Table (x .1) })
 
     pub held : (n : Net) (k : ℕ) → Fits (a .size) → n ≡ drawn (a .size) (take (a .records - 0) after) → AllowedPairs n k → Holds input (record { size = a .size; records = a .records; allowed = k })
     held n k fits e x =

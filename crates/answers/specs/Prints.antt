@@ -16,7 +16,7 @@ use Rattle.networks.specs.declared.faults.TableFault.{TableFault}
 use Rattle.networks.specs.declared.faults.TableFault.the-variants.{NoMemory}
 use Rattle.networks.specs.Faults.{studyParts}
 use Rattle.tables.specs.Drawn.{drawn}
-use Rattle.netfiles.specs.Reading.{Accepted, Refused}
+use Rattle.netfiles.specs.Reading.{Accepted, Refused, Wanting}
 use Rattle.tracing.specs.Traces.{AllowedPairs}
 use Rattle.answers.specs.declared.Contents.{Contents}
 
@@ -69,6 +69,12 @@ pub record Answers (input text : List ℕ) : Type 0 where
   pub prints : Prints input text
   pub only : (other : List ℕ) → Prints input other → other ≡ text
 
--- Want of memory is answered too.
+-- Memory for the network cannot be had. That comes only after the input's length and the size in its first line are in order.
+pub record Starves (input : List ℕ) (f : StudyFault) : Type 0 where
+  pub short : length input ≤ most-bytes
+  pub wanting : Wanting input NoMemory
+  pub fault : f ≡ Table NoMemory
+
+-- The answer to the input; want of memory is answered too.
 abbrev pub Answered : List ℕ → List ℕ → Type 0
-Answered input text = Answers input text ⊎ (text ≡ faultLine (studyParts (Table NoMemory)))
+Answered input text = Answers input text ⊎ (Starves input (Table NoMemory) × (text ≡ faultLine (studyParts (Table NoMemory))))

@@ -6,10 +6,9 @@ ghost use Rattle.std.specs.Of.String.{string-bytes};
 ghost use Rattle.std.specs.Results.{Cases};
 ghost use Rattle.std.specs.Vec.{made};
 ghost use Rattle.networks.specs.declared.faults.Buffer.the-variants.{File};
-ghost use Rattle.networks.specs.declared.faults.StudyFault.the-variants as study;
-ghost use Rattle.networks.specs.declared.faults.TableFault.the-variants.{NoMemory};
+ghost use Rattle.networks.specs.declared.faults.StudyFault.the-variants.{Short};
 ghost use Rattle.networks.specs.Faults.{studyParts};
-ghost use Rattle.answers.specs.Prints.{faultLine, readLine, Fits, Holds, Rejects, Answered};
+ghost use Rattle.answers.specs.Prints.{faultLine, readLine, Fits, Holds, Rejects, Starves, Answered};
 ghost use Rattle.tables.specs.Meaning.{meaningOf};
 ghost use Rattle.tracing.specs.Traces.{AllowedPairs};
 use netfiles::read_network;
@@ -68,7 +67,7 @@ fn read_line(heap: Global, contents: Contents) -> Result<String, AllocError>
 
 // Refuses a network that is too large.
 fn check_size(size: Size) -> Result<(), StudyFault>
-    ensures { λ r. ⌜ Cases r (λ _. Fits size) (λ f. (Fits size → ⊥) × (f ≡ study.Short File)) ⌝ }
+    ensures { λ r. ⌜ Cases r (λ _. Fits size) (λ f. (Fits size → ⊥) × (f ≡ Short File)) ⌝ }
 {
     if size.channels > MAX_CHANNELS || size.places > MAX_PLACES {
         return Err(StudyFault::Short(Buffer::File));
@@ -90,7 +89,7 @@ fn count_allowed(table: &Table) -> Result<usize, StudyFault>
 fn study(heap: Global, input: &[u8]) -> Result<Contents, StudyFault>
     ensures { λ r. ⌜ Cases r
         (λ a. Holds (now (input .entry)) a)
-        (λ f. Rejects (now (input .entry)) f ⊎ (f ≡ study.Table NoMemory)) ⌝ }
+        (λ f. Rejects (now (input .entry)) f ⊎ Starves (now (input .entry)) f) ⌝ }
 {
     if input.len() > LIMIT {
         return Err(StudyFault::Short(Buffer::File));

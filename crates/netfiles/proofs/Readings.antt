@@ -15,12 +15,12 @@ use Rattle.files.specs.Says.{SaysSize, SaysRecord, SayRecords, Reads}
 use Rattle.files.proofs.OneAnswer.{rows, rows-say, say-one, lines-read, size-read, reads-one}
 use Rattle.files.proofs.OneLine.{size-or-fault, size-one, size-fault-one, record-or-fault, record-one, record-fault-one}
 use Rattle.networks.specs.declared.faults.TableFault.{TableFault}
-use Rattle.networks.specs.declared.faults.TableFault.the-variants.{Text}
+use Rattle.networks.specs.declared.faults.TableFault.the-variants.{Text, NoMemory}
 use Rattle.tables.specs.Drawn.{drawn}
 use Rattle.tables.specs.Makes.{SizeFits, SizeMisfit, Fit, Takes, Misfit}
 use Rattle.tables.proofs.OneAnswer.{Parted, same, before, after, parted, fit-takes, takes-or-misfit, misfit-one, size-or-misfit, size-misfit-one}
 use Rattle.netfiles.specs.Reading as reading
-use Rattle.netfiles.specs.Reading.{Accepted, FirstLine, LaterLine, Refused, empty, first, later, many, OneReading}
+use Rattle.netfiles.specs.Reading.{Accepted, FirstLine, LaterLine, Refused, empty, first, later, many, Wanting, OneReading}
 
 -- A first line that says a size within the limits has no fault, and any other has one at most.
 first-or-good : (l : RawLine) (s : Size) (f : TableFault) → SaysSize l s → SizeFits s → FirstLine l f → ⊥
@@ -156,4 +156,17 @@ one-reading file room =
       one = λ s t rs qs a b. reads-one file s t rs qs (a .reads) (b .reads);
       one-fault = one-fault file room;
       same-bytes = λ s rs old new end a w. same-bytes file s rs old new end (a .reads) w;
+    }
+
+-- a file that is accepted has a first line that says a size within the limits
+pub accepted-wanting : (file : List ℕ) (room : ℕ) (s : Size) (rs : List Record) → Accepted file room s rs → Wanting file NoMemory
+accepted-wanting file room s rs a =
+    record {
+      fault = refl;
+      line = (sizeText s, true);
+      rest = rows rs;
+      lines = lines-read file s rs (a .reads);
+      size = s;
+      says = size-read file s rs (a .reads);
+      fits = a .size;
     }
