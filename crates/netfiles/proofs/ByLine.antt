@@ -5,6 +5,7 @@ use mathlib.Core.Path.{_≡_, refl, sym, ap, subst}
 use mathlib.Core.List.{List, [], _∷_}
 use mathlib.Core.Logic.{_⊎_, inl, inr}
 use lib.ListN.{length, drop}
+use Rattle.std.proofs.shelf.Lists.{nil-from-length}
 use Rattle.std.specs.declared.option.Option.the-variants.{Some, None}
 use Rattle.std.specs.declared.result.Result.the-variants.{Ok, Err}
 use Rattle.lines.specs.Pieces.{RawLine, linesOf}
@@ -60,7 +61,7 @@ blank-refused file room s f h (inr p) =
 pub begins : (file : List ℕ) (s : Size) (passed : ℕ) (left : List RawLine) (t : Table) → FirstSays (linesOf file) (Ok s) → left ≡ drop 1 (linesOf file) → passed + length left ≡ length (linesOf file) → SizeFits s → meaningOf t ≡ drawn s [] → Both file s 0 passed left t
 begins file s passed left t says rest count fits e =
     let u = lines.begins file s passed left says rest count in
-    record { lines = u; records = subst (λ (rs : List Record). table.Upto s rs t) (sym (table.none-yet (u .rs) (u .count))) (record { size = fits; fit = table.fit-none s; meaning = e }) }
+    record { lines = u; records = subst (λ (rs : List Record). table.Upto s rs t) (sym (nil-from-length (u .rs) (sym (u .count)))) (record { size = fits; fit = table.fit-none s; meaning = e }) }
 
 module _ (file : List ℕ) (room : ℕ) (s : Size) (n passed m : ℕ) (left rest : List RawLine) (t : Table) (b : Both file s n passed left t) where
   pub text-refused : (f : TextFault) → NextSays passed left (Err f) m rest → Refused file room (Text f)

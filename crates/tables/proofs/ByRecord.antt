@@ -8,7 +8,7 @@ use mathlib.Core.Bool.{Bool, true, false, cond, _&&_, _||_}
 use lib.Dec.{eqb}
 use lib.ListN.{length, getD, take, drop, replicate}
 use Rattle.std.proofs.shelf.Elements.{all-push}
-use Rattle.std.proofs.shelf.Lists.{append-nil, append-assoc, length-append, getD-replicate, getD-past, length-replicate, length-take-le, take-more, take-all, take-append-drop, drop-more, nil-from-length}
+use Rattle.std.proofs.shelf.Lists.{append-nil, append-assoc, length-append, getD-replicate, getD-past, length-replicate, length-take-le, take-more, take-all, take-append-drop, drop-more}
 use Rattle.std.proofs.shelf.Tests.{cases-lt, cond-both}
 use Rattle.std.specs.declared.result.Result.{Result}
 use Rattle.std.specs.declared.result.Result.the-variants.{Ok, Err}
@@ -155,6 +155,3 @@ module _ (s : Size) (xs : List Record) (t₀ t : Table) (is : meaningOf t₀ ≡
 
     pub too-many : (f : TableFault) → most < length xs → f ≡ TooManyRecords (most + 2) → RecordsFault s xs f
     too-many f l e = many (all-done .size) (all-done .fit) l e
-
-pub none-yet : (rs : List Record) → 0 ≡ length rs → rs ≡ []
-none-yet rs e = nil-from-length rs (sym e)
