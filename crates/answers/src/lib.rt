@@ -1,5 +1,7 @@
 //! What netcheck prints for an input.
 
+#![tactic(auto)]
+
 ghost use Rattle.std.specs.Prelude.{◌≡◌, ◌⊎◌, IfOk, string_bytes, MatchResult};
 ghost use Rattle.networks.specs.declared.faults.Buffer.TheVariants.{File};
 ghost use Rattle.networks.specs.declared.faults.StudyFault.TheVariants.{Short};

@@ -1,5 +1,7 @@
 //! Network files: reading them, judging their text, writing them anew.
 
+#![tactic(auto)]
+
 mod fields;
 pub mod judging;
 pub mod reading;

@@ -1,5 +1,7 @@
 //! Text in lines and fields: a line ends with byte 10, and byte 9 parts its fields.
 
+#![tactic(auto)]
+
 ghost use Rattle.std.specs.Prelude.{◌≡◌, ◌+◌, ◌-◌, ◌^◌, ◌<◌, ◌≤◌, [], ◌∷◌, length, IfSome, MatchOption};
 ghost use Rattle.lines.specs.Numbers.{Spelled, Spells};
 ghost use Rattle.lines.specs.Pieces.{run_to, lines_of, Lined, fields_of, fields_left, at_most, Fielded};

@@ -1,5 +1,7 @@
 //! netcheck: a network file on standard input, its answer on standard output.
 
+#![tactic(auto)]
+
 ghost use Rattle.std.specs.Prelude.{◌≤◌, length, IfOk};
 
 use answers::{LIMIT, answer};

@@ -1,5 +1,7 @@
 //! Network files read into lists of records, and written from them.
 
+#![tactic(auto)]
+
 mod reading;
 mod writing;
 

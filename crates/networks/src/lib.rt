@@ -1,5 +1,7 @@
 //! Packet networks: what they are, and the questions that every source of them answers.
 
+#![tactic(auto)]
+
 ghost use Rattle.std.specs.Prelude.{◌≡◌, length};
 ghost use Rattle.networks.specs.Nets.{Net, Conditions, WayAt};
 

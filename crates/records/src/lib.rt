@@ -1,5 +1,7 @@
 //! What the lines of a network file say, how they are written, and their faults.
 
+#![tactic(auto)]
+
 pub mod faults;
 pub mod writing;
 

@@ -1,5 +1,7 @@
 //! Answers the files that the arguments name, and writes anew what each says: its text, and the network that it is read as.
 
+#![tactic(auto)]
+
 use answers::answer;
 use files::rewriting::rewrite;
 use netfiles::{read_network, write_network};

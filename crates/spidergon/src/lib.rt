@@ -1,5 +1,7 @@
 //! Spidergons: rings of switches, each with a link to the one across.
 
+#![tactic(auto)]
+
 ghost use Rattle.std.specs.Prelude.{◌≡◌, ◌*◌, ◌<◌, [], ◌∷◌, if◌then◌else◌, nat_eq};
 ghost use Rattle.networks.specs.Nets.{WayAt};
 ghost use Rattle.spidergon.specs.Building.{Builds};

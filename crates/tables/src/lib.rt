@@ -1,5 +1,7 @@
 //! Networks as tables: a cell for each pair, made from records.
 
+#![tactic(auto)]
+
 mod cell;
 mod making;
 mod marks;

@@ -1,5 +1,7 @@
 //! Which pairs of a network packets can reach.
 
+#![tactic(auto)]
+
 ghost use Rattle.std.specs.Prelude.{◌≡◌, ◌<◌, false, length};
 ghost use Rattle.networks.specs.Allowed.{Allowed, pairs};
 ghost use Rattle.networks.specs.Cleared.{AllZero};

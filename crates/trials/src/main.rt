@@ -1,5 +1,7 @@
 //! Tries the sources of networks against one another and at their limits, and tracing with buffers of several lengths.
 
+#![tactic(auto)]
+
 mod attempt;
 mod buffers;
 mod failing;

@@ -1,7 +1,7 @@
 use Rattle.std.proofs.Common.{◌≡◌, ◌∙◌, arith}
 use Rattle.tracing.proofs.Queueing.{few_queued, end_room, way_below, moved_old, moved_new}
 use Rattle.tracing.proofs.follow_ways.Goals as goal
-use Rattle.tracing.proofs.follow_ways.Goals.{in-Some+then-table-i-eq0, in-Some+else-table-i-eq0, in-default}
+use Rattle.tracing.proofs.follow_ways.Goals.{in-Some+then-table-i-eq0, in-Some+else-table-i-eq0, in_default}
 
 pub bounds-table-i : goal.bounds-table-i
 bounds-table-i g c =
@@ -19,8 +19,8 @@ bounds-table-i-then-table-i-eq0 g c =
     let l = way_below ok c.loop-k.invariant c.in-Some.ensures.0 c.in-Some.ensures.1 c.requires.place in
     rw (c.from.ensures, c.from-in-Some.ensures, wide) (omega (arith, c.loop-k.invariant.queued.bytes))
 
-pub offset-bounds-queue-end : goal.offset-bounds-queue-end
-offset-bounds-queue-end g c =
+pub offset_bounds-queue-end : goal.offset_bounds-queue-end
+offset_bounds-queue-end g c =
     omega (arith, few_queued c.loop-k.invariant.queued (g.N.Network.conditions c.args.net.now))
 
 pub bounds-queue-end : goal.bounds-queue-end
@@ -32,8 +32,8 @@ bounds-queue-end g c =
     let room = end_room c.loop-k.invariant.queued l (rw (c.from.ensures, c.from-in-Some.ensures, wide) at c.if-table-i-eq0.true) in
     omega (arith, c.loop-k.invariant.queued.words)
 
-pub overflow-add-end : goal.overflow-add-end
-overflow-add-end g c =
+pub overflow_add-end : goal.overflow_add-end
+overflow_add-end g c =
     omega (arith, few_queued c.loop-k.invariant.queued (g.N.Network.conditions c.args.net.now))
 
 pub loop-k-preserved : goal.loop-k-preserved
@@ -48,5 +48,5 @@ loop-k-preserved g c =
       | in-Some+else-table-i-eq0 w ↦
           simp (w.table-is, w.queue-is, w.end-is)
           (moved_old ok c.loop-k.invariant w.in-Some.ensures.0 w.in-Some.ensures.1 c.requires.place (rw (w.from.ensures, w.from-in-Some.ensures, wide) at w.if-table-i-eq0.false))
-      | in-default w ↦ absurd (omega (arith, w.in-default.ensures, c.way-count-k-end.ensures))
+      | in_default w ↦ absurd (omega (arith, w.in_default.ensures, c.way_count-k-end.ensures))
     ]

@@ -4,16 +4,16 @@ use Rattle.std.proofs.lemmas.Result.{err_from_is_err_and}
 use Rattle.files.proofs.BadFields.{second_bad, third_bad}
 use Rattle.files.proofs.fields.three_numbers.Goals as goal
 
-pub returns-in-err-number-in-2 : goal.returns-in-err-number-in-2
-returns-in-err-number-in-2 c =
-    let p = err_from_is_err_and c.from-residual-in-err-number-in-2.result c.from-residual-in-err-number-in-2.ensures.1 in
-    let e = c.in-err-number-in-2.ensures in
+pub returns-in_err-number_in-2 : goal.returns-in_err-number_in-2
+returns-in_err-number_in-2 c =
+    let p = err_from_is_err_and c.from_residual-in_err-number_in-2.result c.from_residual-in_err-number_in-2.ensures.1 in
+    let e = c.in_err-number_in-2.ensures in
     let fs = c.in-Some.ensures in
-    rw (p.1, p.2) (second_bad c.args.line.number c.in-Some.second.number (c.args.line.bytes.now, c.args.line.finished) _ c.if-not-line.false e.0 c.in-Some.first.bytes.now c.in-Some.second.bytes.now (c.in-Some.third.bytes.now ∷ []) (c.requires ∙ fs.0) fs.2 (spells_spelled _ _ c.in-ok-number-in.ensures) e.1)
+    rw (p.1, p.2) (second_bad c.args.line.number c.in-Some.second.number (c.args.line.bytes.now, c.args.line.finished) _ c.if-not-line.false e.0 c.in-Some.first.bytes.now c.in-Some.second.bytes.now (c.in-Some.third.bytes.now ∷ []) (c.requires ∙ fs.0) fs.2 (spells_spelled _ _ c.in_ok-number_in.ensures) e.1)
 
-pub returns-in-err-number-in-3 : goal.returns-in-err-number-in-3
-returns-in-err-number-in-3 c =
-    let p = err_from_is_err_and c.from-residual-in-err-number-in-3.result c.from-residual-in-err-number-in-3.ensures.1 in
-    let e = c.in-err-number-in-3.ensures in
+pub returns-in_err-number_in-3 : goal.returns-in_err-number_in-3
+returns-in_err-number_in-3 c =
+    let p = err_from_is_err_and c.from_residual-in_err-number_in-3.result c.from_residual-in_err-number_in-3.ensures.1 in
+    let e = c.in_err-number_in-3.ensures in
     let fs = c.in-Some.ensures in
-    rw (p.1, p.2) (third_bad c.args.line.number c.in-Some.third.number (c.args.line.bytes.now, c.args.line.finished) _ c.if-not-line.false e.0 c.in-Some.first.bytes.now c.in-Some.second.bytes.now c.in-Some.third.bytes.now [] (c.requires ∙ fs.0) fs.3 (spells_spelled _ _ c.in-ok-number-in.ensures) (spells_spelled _ _ c.in-ok-number-in-2.ensures) e.1)
+    rw (p.1, p.2) (third_bad c.args.line.number c.in-Some.third.number (c.args.line.bytes.now, c.args.line.finished) _ c.if-not-line.false e.0 c.in-Some.first.bytes.now c.in-Some.second.bytes.now c.in-Some.third.bytes.now [] (c.requires ∙ fs.0) fs.3 (spells_spelled _ _ c.in_ok-number_in.ensures) (spells_spelled _ _ c.in_ok-number_in-2.ensures) e.1)

@@ -8,7 +8,7 @@ loop-record-init c = wrote_none c.args.at c.args.file.now (omega (arith, c.requi
 
 pub unreachable-requires : goal.unreachable-requires
 unreachable-requires c =
-    record_surely c.args.records.now c.loop-record.record-index c.args.at c.loop-record.end c.args.file.now c.loop-record.file c.write.new.out c.in-default.field-0 _ c.loop-record-test.true c.requires.small (omega (arith, c.requires.room, c.loop-record.auto.file)) c.loop-record.invariant c.in-default.ensures
+    record_surely c.args.records.now c.loop-record.record-index c.args.at c.loop-record.end c.args.file.now c.loop-record.file c.write.new.out c.in_default.field-0 _ c.loop-record-test.true c.requires.small (omega (arith, c.requires.room, c.loop-record.auto.file)) c.loop-record.invariant c.in_default.ensures
 
 pub loop-record-preserved : goal.loop-record-preserved
 loop-record-preserved c =

@@ -10,13 +10,13 @@ returns-then-n-lt10 t c =
     let e = one_digit c.args.n c.if-n-lt10.true in
     wrote_digit c.args.n c.args.at c.args.out.now c.if-n-lt10.true (omega (arith, c.requires))
 
-pub put-number-end-requires : goal.put-number-end-requires
-put-number-end-requires t c = let e = more_digits c.args.n c.if-n-lt10.false (omega arith) in (search rules, omega arith)
+pub put_number-end-requires : goal.put_number-end-requires
+put_number-end-requires t c = let e = more_digits c.args.n c.if-n-lt10.false (omega arith) in (search rules, omega arith)
 
 pub bounds-out-end : goal.bounds-out-end
-bounds-out-end t c = let e = more_digits c.args.n c.if-n-lt10.false (omega arith) in omega (arith, c.requires, c.put-number-end.ensures.ends)
+bounds-out-end t c = let e = more_digits c.args.n c.if-n-lt10.false (omega arith) in omega (arith, c.requires, c.put_number-end.ensures.ends)
 
 pub returns : goal.returns
 returns t c =
     let e = more_digits c.args.n c.if-n-lt10.false (omega arith) in
-    wrote_digits c.args.n c.args.at c.put-number-end.result c.args.out.now c.put-number-end.new.out c.if-n-lt10.false (omega arith) (omega arith) (omega (arith, c.requires, c.put-number-end.ensures.ends)) c.put-number-end.ensures
+    wrote_digits c.args.n c.args.at c.put_number-end.result c.args.out.now c.put_number-end.new.out c.if-n-lt10.false (omega arith) (omega arith) (omega (arith, c.requires, c.put_number-end.ensures.ends)) c.put_number-end.ensures

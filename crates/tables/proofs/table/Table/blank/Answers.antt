@@ -2,12 +2,12 @@ use Rattle.std.proofs.Common.{◌*◌, ◌∙◌}
 use Rattle.tables.proofs.ByRecord.{blank_at, blank_net, blank_room, blank_few, blank_inside}
 use Rattle.tables.proofs.table.Table.blank.Goals as goal
 
-pub invariant-of-result : goal.invariant-of-result
-invariant-of-result c =
-    let fits = c.in-ok-check-size.ensures in
-    let e = c.in-ok-cells.ensures in
+pub invariant_of-result : goal.invariant_of-result
+invariant_of-result c =
+    let fits = c.in_ok-check_size.ensures in
+    let e = c.in_ok-cells.ensures in
     let all = blank_at _ _ e.0 in
     (fits.some_channel, (fits.few_channels, (fits.some_place, (fits.few_places, (e.1 ∙ (λ i. (c.from.ensures i) * (c.from-2.ensures i)), ((λ k h. blank_room (all k)), ((λ k h. blank_few (all k)), ((λ k j h l. blank_inside (all k) l), tt))))))))
 
 pub returns : goal.returns
-returns c = (c.in-ok-check-size.ensures, blank_net c.args.size _ (blank_at _ _ c.in-ok-cells.ensures.0))
+returns c = (c.in_ok-check_size.ensures, blank_net c.args.size _ (blank_at _ _ c.in_ok-cells.ensures.0))
