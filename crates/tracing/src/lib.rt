@@ -14,9 +14,9 @@ use networks::guard::Cleared;
 
 // Marks the entries and no other pair, and queues them. Answers how many there are.
 fn enter<N: Network>(net: &N, table: &mut [u8], queue: &mut [u32]) -> usize
-    requires bytes { length table.old ≡ pairs (meaning net.now) }
-    requires words { length queue.old ≡ pairs (meaning net.now) }
-    ensures { Queued (meaning net.now) table.new queue.new (pairs (meaning net.now)) result }
+    requires bytes { length table.old ≡ pairs (N.meaning net.now) }
+    requires words { length queue.old ≡ pairs (N.meaning net.now) }
+    ensures { Queued (N.meaning net.now) table.new queue.new (pairs (N.meaning net.now)) result }
 {
     let places = usize::from(net.places());
     let mut end = 0;
@@ -43,11 +43,11 @@ fn follow_ways<N: Network>(
     channel: u16,
     place: u16,
 ) -> usize
-    requires queued { Queued (meaning net.now) table.old queue.old (pairs (meaning net.now)) end }
-    requires place { place < (meaning net.now).places }
-    requires allowed { Allowed (meaning net.now) channel place }
-    requires away { (meaning net.now).home channel place ≡ false }
-    ensures { Moved (meaning net.now) channel place (length ((meaning net.now).ways channel place)) table.old queue.old end table.new queue.new result }
+    requires queued { Queued (N.meaning net.now) table.old queue.old (pairs (N.meaning net.now)) end }
+    requires place { place < (N.meaning net.now).places }
+    requires allowed { Allowed (N.meaning net.now) channel place }
+    requires away { (N.meaning net.now).home channel place ≡ false }
+    ensures { Moved (N.meaning net.now) channel place (length ((N.meaning net.now).ways channel place)) table.old queue.old end table.new queue.new result }
 {
     let places = usize::from(net.places());
     for k in 0..net.way_count(channel, place) {
@@ -65,8 +65,8 @@ fn follow_ways<N: Network>(
 
 // Follows the ways of each queued pair that is not home, in the order of the queue. Answers how many pairs were queued in all.
 fn follow<N: Network>(net: &N, table: &mut [u8], queue: &mut [u32], entered: usize) -> usize
-    requires { Queued (meaning net.now) table.old queue.old (pairs (meaning net.now)) entered }
-    ensures { Followed (meaning net.now) table.new queue.new result result }
+    requires { Queued (N.meaning net.now) table.old queue.old (pairs (N.meaning net.now)) entered }
+    ensures { Followed (N.meaning net.now) table.new queue.new result result }
 {
     let places = usize::from(net.places());
     let mut end = entered;
@@ -87,7 +87,7 @@ fn follow<N: Network>(net: &N, table: &mut [u8], queue: &mut [u32], entered: usi
 /// Answers how many are 1. A table or a work area with less than one item for each pair is refused, and then the table stays
 /// as it was. The work area is all 0 at the end.
 pub fn trace<N: Network>(net: &N, allowed: &mut [u8], work: &mut [u32]) -> Result<usize, StudyFault>
-    ensures traces { Traces (meaning net.now) allowed.old (length work.old) result allowed.new }
+    ensures traces { Traces (N.meaning net.now) allowed.old (length work.old) result allowed.new }
     ensures cleared { AllZero work.new }
 {
     let guard = Cleared { words: work };

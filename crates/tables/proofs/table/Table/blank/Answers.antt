@@ -7,7 +7,16 @@ invariant_of-result c =
     let fits = c.in_ok-check_size.ensures in
     let e = c.in_ok-cells.ensures in
     let all = blank_at _ _ e.0 in
-    (fits.some_channel, (fits.few_channels, (fits.some_place, (fits.few_places, (e.1 ∙ (λ i. (c.from.ensures i) * (c.from-2.ensures i)), ((λ k h. blank_room (all k)), ((λ k h. blank_few (all k)), ((λ k j h l. blank_inside (all k) l), tt))))))))
+    record {
+      some_channel = fits.some_channel;
+      few_channels = fits.few_channels;
+      some_place = fits.some_place;
+      few_places = fits.few_places;
+      whole = e.1 ∙ (λ i. (c.from.ensures i) * (c.from-2.ensures i));
+      room = λ k h. blank_room (all k);
+      few_ways = λ k h. blank_few (all k);
+      ways_inside = λ k j h l. blank_inside (all k) l;
+    }
 
 pub returns : goal.returns
 returns c = (c.in_ok-check_size.ensures, blank_net c.args.size _ (blank_at _ _ c.in_ok-cells.ensures.0))
