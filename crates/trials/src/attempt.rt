@@ -16,7 +16,7 @@ const WORD: u32 = 9;
 
 /// How many pairs of a channel and a place a network has.
 pub(super) fn pair_count<N: Network>(net: &N) -> usize
-    ensures value { result ≡ pairs (meaning net.now) }
+    ensures value { result ≡ pairs (N.meaning net.now) }
     ensures bound { result < 2 ^ 32 }
 {
     usize::from(net.channels()) * usize::from(net.places())
