@@ -7,6 +7,7 @@ ghost use Rattle.std.specs.Prelude.{◌≤◌, length, IfOk};
 use answers::{LIMIT, answer};
 use anyhow::anyhow;
 use std::io::{Read, Write};
+use std::process::ExitCode;
 use std::{env, io};
 
 const USAGE: &str = "\
@@ -63,12 +64,12 @@ fn run(rt: &HostRuntime) -> anyhow::Result<()> {
     }
 }
 
-fn main(rt: HostRuntime) -> anyhow::Result<()> {
+fn main(rt: HostRuntime) -> ExitCode {
     match run(&rt) {
-        Ok(()) => Ok(()),
+        Ok(()) => ExitCode::SUCCESS,
         Err(e) => {
-            eprintln!(rt; "netcheck: {e}")?;
-            Err(e)
+            let _ = eprintln!(rt; "netcheck: {e}");
+            ExitCode::FAILURE
         }
     }
 }

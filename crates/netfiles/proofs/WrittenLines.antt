@@ -1,7 +1,7 @@
 -- The lines of records that make a table, written one behind the other.
 use Rattle.std.proofs.Common.{◌≡◌, ℕ, zero, suc, ◌+◌, ◌<◌, ◌≤◌, ◌⊎◌, List, [], ◌∷◌, length, get_or, take, Err, sym, refl, ap, subst, inl, inr, arith}
 use Rattle.std.proofs.lemmas.List.{take_all}
-use Rattle.std.specs.List.{AllByRecursion as All}
+use Rattle.std.specs.List.{AllByRecursion}
 use Rattle.records.specs.declared.Record.{Record}
 use Rattle.records.specs.declared.Record.TheVariants.{Entry, Home, Way}
 use Rattle.records.specs.declared.Size.{Size}
@@ -30,7 +30,7 @@ small_record n (Entry c d) few less w = (omega (arith, w 0 (omega arith)), (omeg
 small_record n (Home c d) few less w = (omega (arith, w 0 (omega arith)), (omega (arith, w 1 (omega arith)), tt))
 small_record n (Way c d h) few less w = (omega (arith, w 0 (omega arith)), (omega (arith, w 1 (omega arith)), (omega (arith, w 2 (omega arith)), tt)))
 
-small_records : (n : Net) (rs : List Record) → n.channels ≤ 1024 → n.places ≤ 256 → All (Within n) rs → AllSmall rs
+small_records : (n : Net) (rs : List Record) → n.channels ≤ 1024 → n.places ≤ 256 → AllByRecursion (Within n) rs → AllSmall rs
 small_records n [] few less h = tt
 small_records n (r ∷ rs) few less h = (small_record n r few less h.0, small_records n rs few less h.1)
 

@@ -2,7 +2,7 @@
 use Rattle.std.proofs.Common.{◌≡◌, ℕ, ◌<◌, Bool, false, ◌&&◌, eqb, List, [], ◌∷◌, refl, arith}
 use Rattle.std.proofs.ByRecursion.{All-append, All-get_or}
 use Rattle.std.proofs.lemmas.Bool.{cond_both, cond-false}
-use Rattle.std.specs.List.{flat_map, AllByRecursion as All}
+use Rattle.std.specs.List.{flat_map, AllByRecursion}
 use Rattle.records.specs.declared.Record.{Record}
 use Rattle.records.specs.declared.Record.TheVariants.{Entry, Home, Way}
 use Rattle.records.specs.declared.Size.{Size}
@@ -35,21 +35,21 @@ module _ (n : Net) (c d : ℕ) (out : Inside n c d → ⊥) where
   no_way (Home a b) w = refl
   no_way (Way a b h) w = cond-false _ _ _ (other a b (w 0 (omega arith)) (w 1 (omega arith)))
 
-  none_of : (p : Record → Bool) → ((r : Record) → Within n r → p r ≡ false) → (rs : List Record) → All (Within n) rs → some p rs ≡ false
+  none_of : (p : Record → Bool) → ((r : Record) → Within n r → p r ≡ false) → (rs : List Record) → AllByRecursion (Within n) rs → some p rs ≡ false
   none_of p h [] w = refl
   none_of p h (r ∷ rs) w = rw (h r w.0) (none_of p h rs w.1)
 
-  no_ways : (rs : List Record) → All (Within n) rs → flat_map (λ r. way_by r c d) rs ≡ []
+  no_ways : (rs : List Record) → AllByRecursion (Within n) rs → flat_map (λ r. way_by r c d) rs ≡ []
   no_ways [] w = refl
   no_ways (r ∷ rs) w = rw (no_way r w.0) (no_ways rs w.1)
 
 -- ways lead to channels that there are
-way_below : (n : Net) (c d : ℕ) (r : Record) → Within n r → All (λ h. h < n.channels) (way_by r c d)
+way_below : (n : Net) (c d : ℕ) (r : Record) → Within n r → AllByRecursion (λ h. h < n.channels) (way_by r c d)
 way_below n c d (Entry a b) w = tt
 way_below n c d (Home a b) w = tt
-way_below n c d (Way a b h) w = cond_both (eqb a c && eqb b d) (h ∷ []) [] (All (λ x. x < n.channels)) (λ _. (w 2 (omega arith), tt)) (λ _. tt)
+way_below n c d (Way a b h) w = cond_both (eqb a c && eqb b d) (h ∷ []) [] (AllByRecursion (λ x. x < n.channels)) (λ _. (w 2 (omega arith), tt)) (λ _. tt)
 
-ways_below : (n : Net) (c d : ℕ) (rs : List Record) → All (Within n) rs → All (λ h. h < n.channels) (flat_map (λ r. way_by r c d) rs)
+ways_below : (n : Net) (c d : ℕ) (rs : List Record) → AllByRecursion (Within n) rs → AllByRecursion (λ h. h < n.channels) (flat_map (λ r. way_by r c d) rs)
 ways_below n c d [] w = tt
 ways_below n c d (r ∷ rs) w = All-append (λ h. h < n.channels) (way_by r c d) _ (way_below n c d r w.0) (ways_below n c d rs w.1)
 

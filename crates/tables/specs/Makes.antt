@@ -1,6 +1,6 @@
 -- Which records make a table, and the faults of those that do not.
 use Rattle.std.specs.Prelude.{◌≡◌, ℕ, ◌+◌, ◌<◌, ◌≤◌, ◌⊎◌, List, [], ◌∷◌, ◌++◌, length, Ok, Err, Result, slice_index}
-use Rattle.std.specs.List.{AllByRecursion as All}
+use Rattle.std.specs.List.{AllByRecursion}
 use Rattle.records.specs.declared.Record.{Record}
 use Rattle.records.specs.declared.Record.TheVariants.{Entry, Home, Way}
 use Rattle.records.specs.declared.Size.{Size}
@@ -67,7 +67,7 @@ pub data Misfit (n : Net) (line : ℕ) (r : Record) (f : TableFault) : Type 0 wh
 
 -- All numbers of the records are below their counts, and no pair has more ways than it may have.
 pub record Fit (s : Size) (rs : List Record) : Type 0 where
-  pub within : All (Within (drawn s rs)) rs
+  pub within : AllByRecursion (Within (drawn s rs)) rs
   pub few : (c d : ℕ) → length ((drawn s rs).ways c d) ≤ most_ways
 
 -- The size and the records make a table.
