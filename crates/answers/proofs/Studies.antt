@@ -1,5 +1,5 @@
 -- What the network file in an input holds, or why it is not taken.
-use Rattle.std.proofs.Common.{◌≡◌, ℕ, ◌-◌, ◌≤◌, ◌⊎◌, List, length, take, drop, Ok, Err, Result, refl, ap, ◌∙◌, subst, inl, inr, arith, MatchResult}
+use Rattle.std.proofs.Common.{◌≡◌, ℕ, ◌≤◌, ◌⊎◌, List, length, take, drop, Ok, Err, Result, refl, ap, ◌∙◌, subst, inl, inr, arith, MatchResult}
 use Rattle.std.proofs.lemmas.Nat.{mul-le}
 use Rattle.std.proofs.lemmas.List.{take_at}
 use Rattle.records.specs.declared.Record.{Record}
@@ -43,8 +43,8 @@ module _ (input : List ℕ) (short : length input ≤ 32768) (before : List Reco
     accepted : Accepted input 2048 a.size r.0
     accepted = subst (λ (k : ℕ). Accepted input k a.size r.0) room r.1
 
-    listed : take (a.records - 0) after ≡ r.0
-    listed = (λ i. take (a.records - 0) (r.3 i)) ∙ take_at r.0 (drop (length r.0) before) (a.records - 0) (let e = r.2 in omega arith)
+    listed : take a.records after ≡ r.0
+    listed = (λ i. take a.records (r.3 i)) ∙ take_at r.0 (drop (length r.0) before) a.records (let e = r.2 in omega arith)
 
     acceptable : Acceptable a.size r.0
     acceptable = record { size = accepted.size; fit = accepted.fit; few = let l = accepted.few in omega arith }
@@ -52,11 +52,11 @@ module _ (input : List ℕ) (short : length input ≤ 32768) (before : List Reco
     pub too_large : (f : StudyFault) → (Fits a.size → ⊥) → f ≡ Short File → Rejects input f
     too_large f h e = large short a.size r.0 accepted h e
 
-    pub unmade : (t : TableFault) → RecordsFault a.size (take (a.records - 0) after) t ⊎ (SizeFits a.size × (t ≡ NoMemory)) → Rejects input (Table t) ⊎ Starves input (Table t)
+    pub unmade : (t : TableFault) → RecordsFault a.size (take a.records after) t ⊎ (SizeFits a.size × (t ≡ NoMemory)) → Rejects input (Table t) ⊎ Starves input (Table t)
     unmade t (inl x) = absurd ((one_fault a.size r.0).never_both t acceptable (subst (λ (rs : List Record). RecordsFault a.size rs t) listed x))
     unmade t (inr x) = inr (record { short = short; wanting = accepted_wanting input 2048 a.size r.0 accepted; fault = ap Table x.1 })
 
-    pub held : (n : Net) (k : ℕ) → Fits a.size → n ≡ drawn a.size (take (a.records - 0) after) → AllowedPairs n k → Holds input (record { size = a.size; records = a.records; allowed = k })
+    pub held : (n : Net) (k : ℕ) → Fits a.size → n ≡ drawn a.size (take a.records after) → AllowedPairs n k → Holds input (record { summary = a; allowed = k })
     held n k fits e x =
         record {
           short = short;

@@ -2,7 +2,8 @@
 use Rattle.std.specs.Prelude.{◌≡◌, ℕ, ◌<◌, ◌≤◌, ◌⊎◌, List, [], ◌∷◌, ◌++◌, length, codes, decimal}
 use Rattle.records.specs.declared.Record.{Record}
 use Rattle.records.specs.declared.Size.{Size}
-use Rattle.records.specs.Faults.{Parts, word_of}
+use Rattle.records.specs.declared.faults.Parts.{Parts}
+use Rattle.records.specs.Faults.{word_of}
 use Rattle.networks.specs.declared.faults.Buffer.TheVariants.{File}
 use Rattle.networks.specs.declared.faults.StudyFault.{StudyFault}
 use Rattle.networks.specs.declared.faults.StudyFault.TheVariants.{Table, Short}
@@ -43,10 +44,10 @@ pub record Fits (s : Size) : Type 0 where
 pub record Holds (input : List ℕ) (a : Contents) : Type 0 where
   pub short : length input ≤ most_bytes
   pub list : List Record
-  pub accepted : Accepted input most_records a.size list
-  pub fits : Fits a.size
-  pub records : a.records ≡ length list
-  pub allowed : AllowedPairs (drawn a.size list) a.allowed
+  pub accepted : Accepted input most_records a.summary.size list
+  pub fits : Fits a.summary.size
+  pub records : a.summary.records ≡ length list
+  pub allowed : AllowedPairs (drawn a.summary.size list) a.allowed
 
 -- Why netcheck does not take an input: it is too long; the file in it is refused; it is accepted, and the network is too large.
 pub data Rejects (input : List ℕ) (f : StudyFault) : Type 0 where
@@ -55,7 +56,7 @@ pub data Rejects (input : List ℕ) (f : StudyFault) : Type 0 where
   large : length input ≤ most_bytes → (s : Size) (rs : List Record) → Accepted input most_records s rs → (Fits s → ⊥) → f ≡ Short File → Rejects input f
 
 pub data Prints (input : List ℕ) (text : List ℕ) : Type 0 where
-  holds : (a : Contents) → Holds input a → text ≡ read_line a.size a.records a.allowed → Prints input text
+  holds : (a : Contents) → Holds input a → text ≡ read_line a.summary.size a.summary.records a.allowed → Prints input text
   rejects : (f : StudyFault) → Rejects input f → text ≡ fault_line (study_parts f) → Prints input text
 
 -- The text is what is printed for the input, and nothing else is.

@@ -10,8 +10,10 @@ ghost use Rattle.answers.specs.Prints.{fault_line, read_line, Fits, Holds, Rejec
 ghost use Rattle.tables.specs.Meaning.{meaning_of};
 ghost use Rattle.tracing.specs.Traces.{AllowedPairs};
 
+use files::judging::Summary;
 use netfiles::read_network;
 use networks::faults::{Buffer, StudyFault};
+use records::faults::{Fault, Parts};
 use records::{Record, Size};
 use std::alloc::{AllocError, Global};
 use tables::Table;
@@ -29,11 +31,10 @@ const MAX_PLACES: u16 = 32;
 
 const MAX_PAIRS: usize = 4_096;
 
-// What a network file holds: its size, the number of its records, and that of the allowed pairs.
-#[derive(Clone, Copy)]
+// What a network file holds: its size and the number of its records, and how many pairs are allowed.
+#[derive(Clone, Copy, PartialEq, Eq, Debug)]
 struct Contents {
-    size: Size,
-    records: usize,
+    summary: Summary,
     allowed: usize,
 }
 
@@ -41,20 +42,21 @@ struct Contents {
 fn fault_line(heap: Global, fault: StudyFault) -> Result<String, AllocError>
     ensures { IfOk result (λ s. string_bytes s ≡ fault_line (study_parts fault)) }
 {
-    let layer = fault.layer().word();
-    let number = fault.number();
-    let line = fault.line();
-    let field = fault.field();
+    let Parts {
+        layer,
+        number,
+        line,
+        field,
+    } = fault.parts();
     format!(in heap; "fault\t{layer}\t{number}\t{line}\t{field}\n")
 }
 
 // The line that tells what was read.
 fn read_line(heap: Global, contents: Contents) -> Result<String, AllocError>
-    ensures { IfOk result (λ s. string_bytes s ≡ read_line contents.size contents.records contents.allowed) }
+    ensures { IfOk result (λ s. string_bytes s ≡ read_line contents.summary.size contents.summary.records contents.allowed) }
 {
-    let channels = contents.size.channels;
-    let places = contents.size.places;
-    let records = contents.records;
+    let Size { channels, places } = contents.summary.size;
+    let records = contents.summary.records;
     let allowed = contents.allowed;
     format!(in heap; "read\t{channels}\t{places}\t{records}\t{allowed}\n")
 }
@@ -71,7 +73,7 @@ fn check_size(size: Size) -> Result<(), StudyFault>
 
 // How many pairs of a network that is not too large are allowed.
 fn count_allowed(table: &Table) -> Result<usize, StudyFault>
-    requires { Fits (record { channels = table.now.channels; places = table.now.places }) }
+    requires { Fits table.now.size }
     ensures { MatchResult result (λ n. AllowedPairs (meaning_of table.now) n) (λ f. ⊥) }
 {
     let mut allowed = [0u8; MAX_PAIRS];
@@ -85,24 +87,16 @@ fn study(heap: Global, input: &[u8]) -> Result<Contents, StudyFault>
         (λ a. Holds input.now a)
         (λ f. Rejects input.now f ⊎ Starves input.now f) }
 {
-    if input.len() > LIMIT {
-        return Err(StudyFault::Short(Buffer::File));
-    }
+    Buffer::File.check(input.len(), LIMIT)?;
     let mut list = [Record::Entry {
         channel: 0,
         place: 0,
     }; MAX_RECORDS];
     let summary = read_network(heap, input, &mut list)?;
-    let size = summary.size;
-    let records = summary.records;
-    check_size(size)?;
-    let table = Table::new(heap, size, &list[0..records])?;
+    check_size(summary.size)?;
+    let table = Table::new(heap, summary.size, &list[..summary.records])?;
     let allowed = count_allowed(&table)?;
-    Ok(Contents {
-        size,
-        records,
-        allowed,
-    })
+    Ok(Contents { summary, allowed })
 }
 
 /// The line that netcheck prints for an input: what was read, or the fault.

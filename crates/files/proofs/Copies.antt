@@ -82,7 +82,7 @@ module _ (file : List ℕ) (s : Size) (passed : ℕ) (left : List RawLine) (says
       }
 
 module _ (file : List ℕ) (passed m : ℕ) (left rest : List RawLine) (old new : List ℕ) (first end : ℕ) (c : Copying file passed left old new first end) where
-  pub record_room : (r : Record) → NextSays passed left (Ok (Some r)) m rest → end + length (finished (record_text r)) ≤ length file
+  pub record_room : (r : Record) → NextSays passed left (Some (Ok r)) m rest → end + length (finished (record_text r)) ≤ length file
   record_room r h =
       let a = ap length (so_far file c.size c.count passed left c.upto) in
       let b = length-append (file_text c.size c.upto.rs) (file_of left) in
@@ -93,7 +93,7 @@ module _ (file : List ℕ) (passed m : ℕ) (left rest : List RawLine) (old new 
       omega arith
 
   -- one record more is written
-  pub more : (r : Record) (newer : List ℕ) (end' : ℕ) → NextSays passed left (Ok (Some r)) m rest → length new ≡ length old → Wrote (finished (record_text r)) end new newer end' → Copying file m rest old newer first end'
+  pub more : (r : Record) (newer : List ℕ) (end' : ℕ) → NextSays passed left (Some (Ok r)) m rest → length new ≡ length old → Wrote (finished (record_text r)) end new newer end' → Copying file m rest old newer first end'
   unfolding goes_on
   more r newer end' h same w =
       let s : Size = c.size in
@@ -107,11 +107,11 @@ module _ (file : List ℕ) (passed m : ℕ) (left rest : List RawLine) (old new 
         wrote = subst (λ t. Wrote t 0 old newer end') text both;
       }
 
-  pub no_fault : (f : TextFault) → (s : Size) (rs : List Record) → Reads file s rs → NextSays passed left (Err f) m rest → ⊥
+  pub no_fault : (f : TextFault) → (s : Size) (rs : List Record) → Reads file s rs → NextSays passed left (Some (Err f)) m rest → ⊥
   no_fault f s rs r h = reads_or_fault file s rs f r (record_fault file c.size c.count passed m left rest f c.upto h)
 
   -- all is written
-  pub done : (head start : List ℕ) → NextSays passed left (Ok None) m rest → length old ≡ length start → Wrote head 0 start old first → Readable file × Wrote file 0 start new end
+  pub done : (head start : List ℕ) → NextSays passed left None m rest → length old ≡ length start → Wrote head 0 start old first → Readable file × Wrote file 0 start new end
   done head start h same w =
       let r = all_read file c.size c.count passed m left rest c.upto h in
       let d = drop_later end first old start c.later (wrote_front head 0 start old first w).1 in

@@ -1,4 +1,4 @@
-mod BadFields
+mod FirstNumbers
 pub mod Copies
 mod Letters
 pub mod LineByLine

@@ -1,9 +1,9 @@
 -- Judging a file line by line.
-use Rattle.std.proofs.Common.{◌≡◌, ℕ, ◌+◌, List, [], ◌∷◌, ◌++◌, length, drop, Some, None, Ok, Err, sym, refl, ap, ◌∙◌, arith}
-use Rattle.std.proofs.lemmas.List.{append-nil, append_assoc, length_push}
+use Rattle.std.proofs.Common.{◌≡◌, ℕ, ◌+◌, ◌<◌, List, [], ◌∷◌, ◌++◌, length, drop, Some, None, Ok, Err, sym, refl, ap, ◌∙◌, arith}
+use Rattle.std.proofs.lemmas.List.{append-nil, append_assoc, length-append, length_push}
 use Rattle.std.specs.List.{flat_map}
 use Rattle.lines.specs.Pieces.{RawLine, lines_of, file_of}
-use Rattle.lines.proofs.Laws.{lined}
+use Rattle.lines.proofs.Laws.{lined, few_lines}
 use Rattle.records.specs.declared.faults.TextFault.{TextFault}
 use Rattle.records.specs.declared.Record.{Record}
 use Rattle.records.specs.declared.Size.{Size}
@@ -29,6 +29,16 @@ say-same-length [] (r ∷ rs) h = absurd h
 say-same-length (l ∷ ls) [] h = absurd h
 say-same-length (l ∷ ls) (r ∷ rs) h = let e = say-same-length ls rs h.1 in omega arith
 
+-- fewer records than the file has bytes
+pub fewer_records : (file : List ℕ) (s : Size) (n passed : ℕ) (left : List RawLine) → Upto file s n passed left → n < length file
+fewer_records file s n passed left u =
+    let a = ap length u.lines in
+    let b = length-append u.good left in
+    let c = say-same-length u.good u.rs u.say in
+    let d = few_lines file in
+    let e = u.count in
+    omega arith
+
 pub say_more : (ls : List RawLine) (rs : List Record) (l : RawLine) (r : Record) → SayRecords ls rs → SaysRecord l r → SayRecords (ls ++ (l ∷ [])) (rs ++ (r ∷ []))
 say_more [] [] l r h s = (s, tt)
 say_more [] (q ∷ qs) l r h s = absurd h
@@ -42,7 +52,7 @@ begins file s passed left f e h = go (lines_of file) refl f e h
     go [] is f e h = let z : ◌≡◌ {A = ℕ} 0 1 = cc in absurd (omega arith)
     go (l ∷ ls) is f e h = record { head = l; good = []; rs = []; lines = cc; size = f; say = tt; count = refl; place = let x = ap length e in omega arith }
 
-unfoldable pub goes_on : (file : List ℕ) (s : Size) (n passed m : ℕ) (left rest : List RawLine) (r : Record) → Upto file s n passed left → NextSays passed left (Ok (Some r)) m rest → Upto file s (n + 1) m rest
+unfoldable pub goes_on : (file : List ℕ) (s : Size) (n passed m : ℕ) (left rest : List RawLine) (r : Record) → Upto file s n passed left → NextSays passed left (Some (Ok r)) m rest → Upto file s (n + 1) m rest
 goes_on file s n passed m left rest r u h =
     let l : RawLine = h.0 in
     let a = append_assoc u.good (l ∷ []) rest in
@@ -68,7 +78,7 @@ size_fault file f h = go (lines_of file) refl h
     go [] is h = empty is (cc)
     go (l ∷ ls) is h = first l ls is h
 
-pub record_fault : (file : List ℕ) (s : Size) (n passed m : ℕ) (left rest : List RawLine) (f : TextFault) → Upto file s n passed left → NextSays passed left (Err f) m rest → FileFault file f
+pub record_fault : (file : List ℕ) (s : Size) (n passed m : ℕ) (left rest : List RawLine) (f : TextFault) → Upto file s n passed left → NextSays passed left (Some (Err f)) m rest → FileFault file f
 record_fault file s n passed m left rest f u h =
     let e = u.lines in
     let i = h.1 in
@@ -93,7 +103,7 @@ small_of [] (r ∷ rs) h = absurd h
 small_of (l ∷ ls) [] h = absurd h
 small_of (l ∷ ls) (r ∷ rs) h = (h.0.small, small_of ls rs h.1)
 
-pub all_read : (file : List ℕ) (s : Size) (n passed m : ℕ) (left rest : List RawLine) (u : Upto file s n passed left) → NextSays passed left (Ok None) m rest → Reads file s u.rs
+pub all_read : (file : List ℕ) (s : Size) (n passed m : ℕ) (left rest : List RawLine) (u : Upto file s n passed left) → NextSays passed left None m rest → Reads file s u.rs
 all_read file s n passed m left rest u h =
     let e = u.lines in
     let z = h.0 in

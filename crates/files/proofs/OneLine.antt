@@ -31,7 +31,7 @@ apart_numbers : (ns : List ℕ) → Small ns → Apart (map decimal ns)
 apart_numbers [] h = tt
 apart_numbers (n ∷ ns) h = (lacks_decimal 9 n (omega arith) h.0, apart_numbers ns h.1)
 
-spelled_numbers : (ns : List ℕ) → Small ns → (k : ℕ) → k < length ns → Spelled (get_or (map decimal ns) k [])
+pub spelled_numbers : (ns : List ℕ) → Small ns → (k : ℕ) → k < length ns → Spelled (get_or (map decimal ns) k [])
 spelled_numbers [] h k l = absurd (omega arith)
 spelled_numbers (n ∷ ns) h zero l = decimal_spelled n h.0
 spelled_numbers (n ∷ ns) h (suc k) l = spelled_numbers ns h.1 k (omega arith)

@@ -1,3 +1,4 @@
 pub mod Answers
+pub mod Reading
 pub mod Rewrites
 pub mod Says

@@ -94,10 +94,10 @@ FirstSays [] r = r ≡ Err NoSize
 FirstSays (l ∷ ls) r = MatchResult r (λ s. SaysSize l s) (λ f. SizeFault l f)
 
 -- What the next of the lines says, if there is one: n lines stand before those of `ls`, and m before those of `left`.
-abbrev pub NextSays : ℕ → List RawLine → Result (Option Record) TextFault → ℕ → List RawLine → Type 0
-NextSays n ls (Ok None) m left = (ls ≡ []) × (left ≡ []) × (m ≡ n)
-NextSays n ls (Ok (Some r)) m left = (l : RawLine) × (ls ≡ l ∷ left) × SaysRecord l r × (m ≡ n + 1)
-NextSays n ls (Err f) m left = (l : RawLine) × (ls ≡ l ∷ left) × RecordFault (n + 1) l f × (m ≡ n + 1)
+abbrev pub NextSays : ℕ → List RawLine → Option (Result Record TextFault) → ℕ → List RawLine → Type 0
+NextSays n ls None m left = (ls ≡ []) × (left ≡ []) × (m ≡ n)
+NextSays n ls (Some (Ok r)) m left = (l : RawLine) × (ls ≡ l ∷ left) × SaysRecord l r × (m ≡ n + 1)
+NextSays n ls (Some (Err f)) m left = (l : RawLine) × (ls ≡ l ∷ left) × RecordFault (n + 1) l f × (m ≡ n + 1)
 
 -- What a file says: it is how the size and the records are written.
 pub record Reads (file : List ℕ) (s : Size) (rs : List Record) : Type 0 where

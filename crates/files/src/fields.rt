@@ -1,9 +1,9 @@
 //! A line taken apart: its letter, and the numbers behind it.
 
-ghost use Rattle.std.specs.Prelude.{◌≡◌, ℕ, ◌<◌, [], ◌∷◌, length, drop, MatchOption, MatchResult, ◌≢◌, slice_index_or};
+ghost use Rattle.std.specs.Prelude.{◌≡◌, ℕ, [], ◌∷◌, MatchOption, MatchResult, ◌≢◌, slice_index_or};
 ghost use Rattle.lines.specs.Numbers.{Spelled, Spells};
-ghost use Rattle.lines.specs.Pieces.{fields_of, fields_left};
-ghost use Rattle.files.specs.Says.{HasNumbers, NumbersFault};
+ghost use Rattle.lines.specs.Pieces.{raw, fields_of, fields_left};
+ghost use Rattle.files.specs.Says.{behind, HasNumbers, NumbersFault};
 ghost use Rattle.records.specs.declared.faults.TextFault.TheVariants.{NoNumber};
 
 use lines::{Field, Fields, Line, read_number};
@@ -20,80 +20,30 @@ pub(super) fn split_letter(line: &[u8]) -> Option<(char, Option<&[u8]>)>
     }
 }
 
-// The two fields behind the letter, where there are just two.
-fn two_fields<'a>(rest: Option<&'a [u8]>) -> Option<(Field<'a>, Field<'a>)>
-    ensures { MatchOption result (length (fields_left (λ x. x.now) rest.entry) ≢ 2) (λ p. (fields_left (λ x. x.now) rest.entry ≡ p.0.bytes.now ∷ (p.1.bytes.now ∷ [])) × (p.0.number ≡ 2) × (p.1.number ≡ 3)) }
-{
-    let mut fields = Fields::after_first(rest);
-    let first = fields.next()?;
-    let second = fields.next()?;
-    match fields.next() {
-        Some(_) => None,
-        None => Some((first, second)),
-    }
-}
-
-// The three fields behind the letter, where there are just three.
-fn three_fields<'a>(rest: Option<&'a [u8]>) -> Option<(Field<'a>, Field<'a>, Field<'a>)>
-    ensures { MatchOption result (length (fields_left (λ x. x.now) rest.entry) ≢ 3) (λ p. (fields_left (λ x. x.now) rest.entry ≡ p.0.bytes.now ∷ (p.1.bytes.now ∷ (p.2.bytes.now ∷ []))) × (p.0.number ≡ 2) × (p.1.number ≡ 3) × (p.2.number ≡ 4)) }
-{
-    let mut fields = Fields::after_first(rest);
-    let first = fields.next()?;
-    let second = fields.next()?;
-    let third = fields.next()?;
-    match fields.next() {
-        Some(_) => None,
-        None => Some((first, second, third)),
-    }
-}
-
 // The number that a field of the line spells.
 fn number_in(field: Field, line: usize) -> Result<u16, TextFault>
     ensures { MatchResult result (λ n. Spells field.entry.bytes.now n) (λ f. (f ≡ NoNumber line field.entry.number) × (Spelled field.entry.bytes.now → ⊥)) }
 {
-    match read_number(field.bytes) {
-        Some(n) => Ok(n),
-        None => Err(TextFault::NoNumber {
-            line,
-            field: field.number,
-        }),
-    }
+    read_number(field.bytes).ok_or(TextFault::NoNumber {
+        line,
+        field: field.number,
+    })
 }
 
-// The two numbers of a line, where `rest` is what stands behind its letter.
-pub(super) fn two_numbers(line: Line, rest: Option<&[u8]>) -> Result<(u16, u16), TextFault>
-    requires { drop 1 (fields_of line.bytes.now) ≡ fields_left (λ x. x.now) rest }
-    ensures { MatchResult result
-        (λ p. HasNumbers (line.entry.bytes.now, line.entry.finished) (p.0 ∷ (p.1 ∷ [])))
-        (λ f. NumbersFault 2 line.entry.number (line.entry.bytes.now, line.entry.finished) f) }
+// The N numbers of a line, where `rest` is what stands behind its letter.
+pub(super) fn numbers<const N: usize>(
+    line: Line,
+    rest: Option<&[u8]>,
+) -> Result<[u16; N], TextFault>
+    requires { behind (raw line) ≡ fields_left (λ x. x.now) rest }
+    ensures { MatchResult result (λ ns. HasNumbers (raw line.entry) ns) (λ f. NumbersFault N line.entry.number (raw line.entry) f) }
 {
-    let number = line.number;
-    if !line.finished {
-        return Err(TextFault::WrongShape { line: number });
+    if !line.finished || Fields::after_first(rest).count() != N {
+        return Err(TextFault::WrongShape { line: line.number });
     }
-    let Some((first, second)) = two_fields(rest) else {
-        return Err(TextFault::WrongShape { line: number });
-    };
-    Ok((number_in(first, number)?, number_in(second, number)?))
-}
-
-// The three numbers of a line, where `rest` is what stands behind its letter.
-pub(super) fn three_numbers(line: Line, rest: Option<&[u8]>) -> Result<(u16, u16, u16), TextFault>
-    requires { drop 1 (fields_of line.bytes.now) ≡ fields_left (λ x. x.now) rest }
-    ensures { MatchResult result
-        (λ p. HasNumbers (line.entry.bytes.now, line.entry.finished) (p.0 ∷ (p.1 ∷ (p.2 ∷ []))))
-        (λ f. NumbersFault 3 line.entry.number (line.entry.bytes.now, line.entry.finished) f) }
-{
-    let number = line.number;
-    if !line.finished {
-        return Err(TextFault::WrongShape { line: number });
+    let mut numbers = [0; N];
+    for (at, field) in Fields::after_first(rest).enumerate() {
+        numbers[at] = number_in(field, line.number)?;
     }
-    let Some((first, second, third)) = three_fields(rest) else {
-        return Err(TextFault::WrongShape { line: number });
-    };
-    Ok((
-        number_in(first, number)?,
-        number_in(second, number)?,
-        number_in(third, number)?,
-    ))
+    Ok(numbers)
 }

@@ -7,7 +7,7 @@ use records::Size;
 use records::faults::TextFault;
 
 /// What an accepted file holds.
-#[derive(Clone, Copy)]
+#[derive(Clone, Copy, PartialEq, Eq, Debug)]
 pub struct Summary {
     pub size: Size,
     pub records: usize,
@@ -18,10 +18,11 @@ pub fn judge(file: &[u8]) -> Result<Summary, TextFault>
     ensures answers { Answers file.now result }
     ensures sole { Sole file.now result }
 {
-    let mut reader = Reader::new(file);
+    let reader = Reader::new(file);
     let size = reader.size()?;
     let mut records = 0;
-    while let Some(_) = reader.record()? {
+    for record in reader {
+        record?;
         records += 1;
     }
     Ok(Summary { size, records })

@@ -1,25 +1,28 @@
 //! Reading a network file: its size, then one record at a time.
 
 ghost use Rattle.std.specs.Prelude.{◌≡◌, ◌+◌, length, drop, MatchResult};
-ghost use Rattle.lines.specs.Pieces.{lines_of};
+ghost use Rattle.std.specs.Iterator.{item_count};
+ghost use Rattle.lines.specs.Pieces.{raw, lines_of};
+ghost use Rattle.files.specs.Reading.{Reading};
 ghost use Rattle.files.specs.Says.{SaysSize, SizeFault, SaysRecord, RecordFault, FirstSays, NextSays};
 
-use crate::fields::{split_letter, three_numbers, two_numbers};
+use crate::fields::{numbers, split_letter};
 use lines::{Line, Lines};
 use records::faults::TextFault;
 use records::{Record, Size};
+use std::marker::Model;
 
 // What the first line of a file says.
 fn read_size(line: Line) -> Result<Size, TextFault>
     requires { line.number ≡ 1 }
-    ensures { MatchResult result (λ s. SaysSize (line.entry.bytes.now, line.entry.finished) s) (λ f. SizeFault (line.entry.bytes.now, line.entry.finished) f) }
+    ensures { MatchResult result (λ s. SaysSize (raw line.entry) s) (λ f. SizeFault (raw line.entry) f) }
 {
     let Some((letter, rest)) = split_letter(line.bytes) else {
         return Err(TextFault::NoSize);
     };
     match letter {
         'n' => {
-            let (channels, places) = two_numbers(line, rest)?;
+            let [channels, places] = numbers::<2>(line, rest)?;
             Ok(Size { channels, places })
         }
         _ => Err(TextFault::NoSize),
@@ -28,7 +31,7 @@ fn read_size(line: Line) -> Result<Size, TextFault>
 
 // What a later line says.
 fn read_record(line: Line) -> Result<Record, TextFault>
-    ensures { MatchResult result (λ x. SaysRecord (line.entry.bytes.now, line.entry.finished) x) (λ f. RecordFault line.entry.number (line.entry.bytes.now, line.entry.finished) f) }
+    ensures { MatchResult result (λ x. SaysRecord (raw line.entry) x) (λ f. RecordFault line.entry.number (raw line.entry) f) }
 {
     let number = line.number;
     let Some((letter, rest)) = split_letter(line.bytes) else {
@@ -36,15 +39,15 @@ fn read_record(line: Line) -> Result<Record, TextFault>
     };
     match letter {
         'e' => {
-            let (channel, place) = two_numbers(line, rest)?;
+            let [channel, place] = numbers::<2>(line, rest)?;
             Ok(Record::Entry { channel, place })
         }
         'h' => {
-            let (channel, place) = two_numbers(line, rest)?;
+            let [channel, place] = numbers::<2>(line, rest)?;
             Ok(Record::Home { channel, place })
         }
         'w' => {
-            let (channel, place, next) = three_numbers(line, rest)?;
+            let [channel, place, next] = numbers::<3>(line, rest)?;
             Ok(Record::Way {
                 channel,
                 place,
@@ -63,12 +66,18 @@ pub struct Reader<'a> {
     lines: Lines<'a>,
 }
 
+impl<'a> Model for Reader<'a> {
+    ghost Value = { Reading };
+
+    ghost view = { λ s. record { file = s.file.now; left = lines_of s.lines.rest; passed = s.lines.passed } };
+}
+
 impl<'a> Reader<'a> {
     /// A reader whose next record is that of the second line.
     pub fn new(file: &'a [u8]) -> Reader<'a>
-        ensures file { result.file.now ≡ file.now }
-        ensures lines { lines_of result.lines.rest.now ≡ drop 1 (lines_of file.now) }
-        ensures passed { result.lines.passed + length (lines_of result.lines.rest.now) ≡ length (lines_of file.now) }
+        ensures file { result.file ≡ file.now }
+        ensures lines { result.left ≡ drop 1 (lines_of file.now) }
+        ensures passed { result.passed + length result.left ≡ length (lines_of file.now) }
     {
         let mut lines = Lines::new(file);
         let _ = lines.next();
@@ -77,7 +86,7 @@ impl<'a> Reader<'a> {
 
     /// The size that the first line says, or that line's fault.
     pub fn size(&self) -> Result<Size, TextFault>
-        ensures { FirstSays (lines_of self.now.file.now) result }
+        ensures { FirstSays (lines_of self.now.file) result }
     {
         let mut lines = Lines::new(self.file);
         let Some(first) = lines.next() else {
@@ -86,22 +95,23 @@ impl<'a> Reader<'a> {
         read_size(first)
     }
 
-    /// The record that the next line says, or that line's fault; none at the end of the file.
-    pub fn record(&mut self) -> Result<Option<Record>, TextFault>
-        ensures file { self.new.file.now ≡ self.old.file.now }
-        ensures next { NextSays self.old.lines.passed (lines_of self.old.lines.rest.now) result self.new.lines.passed (lines_of self.new.lines.rest.now) }
-    {
-        let Some(line) = self.lines.next() else {
-            return Ok(None);
-        };
-        let record = read_record(line)?;
-        Ok(Some(record))
-    }
-
     /// The number of the line that was read last.
     pub fn line(&self) -> usize
-        ensures { result ≡ self.now.lines.passed }
+        ensures { result ≡ self.now.passed }
     {
         self.lines.passed()
+    }
+}
+
+/// Hands out the record that each line says, or that line's fault, and then goes on behind that line.
+impl<'a> Iterator for Reader<'a> {
+    type Item = Result<Record, TextFault>;
+
+    ghost next_gives = { λ s r t. (t.file ≡ s.file) × NextSays s.passed s.left r t.passed t.left };
+
+    ghost remaining = { item_count (λ s. s.left) };
+
+    fn next(&mut self) -> Option<Result<Record, TextFault>> {
+        self.lines.next().map(read_record)
     }
 }

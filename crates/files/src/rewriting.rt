@@ -7,10 +7,10 @@ ghost use Rattle.files.specs.declared.rewriting.RewriteFault.TheVariants.{Text, 
 use crate::judging::judge;
 use crate::reading::Reader;
 use records::faults::TextFault;
-use records::writing::WriteFault;
+use records::writing::{Statement, WriteFault};
 
 /// Why a file was not written anew.
-#[derive(Clone, Copy)]
+#[derive(Clone, Copy, PartialEq, Eq, Debug)]
 pub enum RewriteFault {
     /// The file has a fault.
     Text(TextFault),
@@ -43,11 +43,11 @@ pub fn rewrite(file: &[u8], out: &mut [u8]) -> Result<usize, RewriteFault>
     if out.len() < file.len() {
         return Err(RewriteFault::Line(WriteFault::NoRoom));
     }
-    let mut reader = Reader::new(file);
+    let reader = Reader::new(file);
     let size = reader.size()?;
     let mut end = size.write(out, 0)?;
-    while let Some(record) = reader.record()? {
-        end = record.write(out, end)?;
+    for record in reader {
+        end = record?.write(out, end)?;
     }
     Ok(end)
 }

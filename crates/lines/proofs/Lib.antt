@@ -1,3 +1,4 @@
-mod Cuts
+pub mod Counts
+mod Steps
 pub mod Laws
 pub mod Numerals

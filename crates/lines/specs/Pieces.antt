@@ -1,14 +1,14 @@
 -- The lines of a file and the fields of a line.
 use Rattle.std.specs.Prelude.{◌≡◌, ℕ, ◌+◌, ◌<◌, Bool, true, false, cond, ◌⊎◌, List, [], ◌∷◌, ◌++◌, length, Some, None, Option, ◌==◌, ◌≢◌}
+use Rattle.lines.specs.declared.Line.{Line}
 
 -- a line: its bytes without the byte 10, and whether a byte 10 ends it
 abbrev pub RawLine : Type 0
 RawLine = List ℕ × Bool
 
--- how many bytes come before the first that is `stop`
-abbrev pub run_to : ℕ → List ℕ → ℕ
-run_to stop [] = 0
-run_to stop (x ∷ xs) = cond (x == stop) 0 (1 + run_to stop xs)
+-- what a line that is handed out holds of the text
+abbrev pub raw : Line → RawLine
+raw line = (line.bytes.now, line.finished)
 
 -- a byte in front of the first line
 abbrev pub on_line : ℕ → List RawLine → List RawLine
@@ -34,11 +34,6 @@ fields_of (x ∷ xs) = cond (x == 9) ([] ∷ fields_of xs) (on_field x (fields_o
 abbrev pub fields_left : {A : Type 0} → (A → List ℕ) → Option A → List (List ℕ)
 fields_left text None = []
 fields_left text (Some rest) = fields_of (text rest)
-
--- an upper bound on how many those are
-abbrev pub at_most : {A : Type 0} → (A → List ℕ) → Option A → ℕ
-at_most text None = 0
-at_most text (Some rest) = length (text rest) + 1
 
 -- the byte x stands nowhere in the list
 abbrev pub Lacks : ℕ → List ℕ → Type 0
@@ -83,3 +78,8 @@ pub record Fielded (line : List ℕ) : Type 0 where
   pub joined : line_of (fields_of line) ≡ line
   pub apart : Apart (fields_of line)
   pub only : (fs : List (List ℕ)) → 0 < length fs → Apart fs → line_of fs ≡ line → fs ≡ fields_of line
+
+-- A piece that is handed out after n others has the number n + 1, and m are handed out then; without one n and m are the same.
+abbrev pub Numbers : {A : Type 0} → ℕ → (A → ℕ) → Option A → ℕ → Type 0
+Numbers n number None m = m ≡ n
+Numbers n number (Some piece) m = (number piece ≡ n + 1) × (m ≡ number piece)

@@ -2,15 +2,20 @@
 
 #![tactic(auto)]
 
-ghost use Rattle.std.specs.Prelude.{◌≡◌, ◌+◌, ◌-◌, ◌^◌, ◌<◌, ◌≤◌, [], ◌∷◌, length, IfSome, MatchOption};
+ghost use Rattle.std.specs.Prelude.{◌≡◌, ℕ, List, Option, ◌+◌, ◌-◌, ◌^◌, ◌<◌, ◌≤◌, ◌∷◌, ◌++◌, length, IfSome, MatchOption};
+ghost use Rattle.std.specs.Iterator.{YieldsFirstBy, item_count};
+ghost use Rattle.std.specs.Option.{option_map};
 ghost use Rattle.lines.specs.Numbers.{Spelled, Spells};
-ghost use Rattle.lines.specs.Pieces.{run_to, lines_of, Lined, fields_of, fields_left, at_most, Fielded};
+ghost use Rattle.lines.specs.Pieces.{raw, lines_of, Lacks, Lined, fields_of, fields_left, Fielded, Numbers};
+ghost use Rattle.lines.specs.Unread.{Unread};
+
+use std::marker::Model;
 
 // How many digits a number has at most.
 const MAX_DIGITS: usize = 4;
 
 /// A line of a file, without the byte 10 that ends it.
-#[derive(Clone, Copy)]
+#[derive(Clone, Copy, PartialEq, Eq, Debug)]
 pub struct Line<'a> {
     pub bytes: &'a [u8],
     /// From 1 on.
@@ -26,11 +31,18 @@ pub struct Lines<'a> {
     rest: &'a [u8],
     // how many were
     passed: usize,
-    ghost counted: { passed + length rest.now < 2 ^ 63 },
+}
+
+impl<'a> Model for Lines<'a> {
+    ghost Value = { Unread (List ℕ) };
+
+    ghost view = { λ s. record { rest = s.rest.now; passed = s.passed } };
+
+    ghost invariant = { λ s. s.passed + length s.rest.now < 2 ^ 63 };
 }
 
 /// A field of a line.
-#[derive(Clone, Copy)]
+#[derive(Clone, Copy, PartialEq, Eq, Debug)]
 pub struct Field<'a> {
     pub bytes: &'a [u8],
     /// From 1 on.
@@ -44,44 +56,31 @@ pub struct Fields<'a> {
     rest: Option<&'a [u8]>,
     // how many were
     passed: usize,
-    ghost counted: { passed + at_most (λ x. x.now) rest < 2 ^ 64 },
 }
 
-// How many bytes come before the first that is `stop`.
-fn run_to(bytes: &[u8], stop: u8) -> usize
-    ensures value { result ≡ run_to stop bytes.now }
-    ensures bound { result ≤ length bytes.now }
-{
-    for (at, byte) in bytes.iter().enumerate() {
-        if *byte == stop {
-            return at;
-        }
-    }
-    bytes.len()
+impl<'a> Model for Fields<'a> {
+    ghost Value = { Unread (Option (List ℕ)) };
+
+    ghost view = { λ s. record { rest = option_map (λ x. x.now) s.rest; passed = s.passed } };
+
+    ghost invariant = { λ s. s.passed + length (fields_left (λ x. x.now) s.rest) < 2 ^ 64 };
 }
 
-// The first of some lines, whether it is finished, and what follows it.
-fn cut_line<'a>(rest: &'a [u8]) -> Option<(&'a [u8], bool, &'a [u8])>
-    ensures cut { MatchOption result (lines_of rest.now ≡ []) (λ p. (lines_of rest.now ≡ (p.0.now, p.1) ∷ lines_of p.2.now) × (length p.2.now < length rest.now)) }
-    ensures lines { Lined rest.now }
+// What stands before the first byte `stop`, and what follows that byte, if there is one.
+fn split_at_byte<'a>(bytes: &'a [u8], stop: u8) -> (&'a [u8], Option<&'a [u8]>)
+    ensures before { Lacks stop result.0.now }
+    ensures parts { MatchOption result.1 (bytes.now ≡ result.0.now) (λ after. bytes.now ≡ result.0.now ++ (stop ∷ after.now)) }
 {
-    if rest.is_empty() {
-        return None;
+    match bytes.iter().position(|byte| *byte == stop) {
+        Some(at) => (&bytes[..at], Some(&bytes[at + 1..])),
+        None => (bytes, None),
     }
-    let length = run_to(rest, b'\n');
-    let finished = length < rest.len();
-    let after = if finished {
-        &rest[length + 1..]
-    } else {
-        &rest[length..]
-    };
-    Some((&rest[0..length], finished, after))
 }
 
 impl<'a> Lines<'a> {
     /// All lines of the file.
     pub fn new(file: &'a [u8]) -> Lines<'a>
-        ensures rest { result.rest.now ≡ file.now }
+        ensures rest { result.rest ≡ file.now }
         ensures passed { result.passed ≡ 0 }
     {
         Lines {
@@ -96,47 +95,38 @@ impl<'a> Lines<'a> {
     {
         self.passed
     }
+}
 
-    /// The next line, if there is one: what stands up to the next byte 10, or up to the file's end.
-    pub fn next(&mut self) -> Option<Line<'a>>
-        ensures cases { MatchOption result
-            ((lines_of self.old.rest.now ≡ []) × (lines_of self.new.rest.now ≡ []) × (self.new.passed ≡ self.old.passed))
-            (λ l. (lines_of self.old.rest.now ≡ (l.bytes.now, l.finished) ∷ lines_of self.new.rest.now) × (l.number ≡ self.old.passed + 1) × (self.new.passed ≡ l.number)) }
-        ensures lines { Lined self.old.rest.now }
-    {
-        let (bytes, finished, rest) = cut_line(self.rest)?;
+/// Hands out what stands up to the next byte 10, or up to the file's end.
+impl<'a> Iterator for Lines<'a> {
+    type Item = Line<'a>;
+
+    ghost next_gives = { λ s r t. YieldsFirstBy raw (λ s. lines_of s.rest) s r t × Numbers s.passed (λ l. l.number) r t.passed × Lined s.rest };
+
+    ghost remaining = { item_count (λ s. lines_of s.rest) };
+
+    fn next(&mut self) -> Option<Line<'a>> {
+        if self.rest.is_empty() {
+            return None;
+        }
+        let (bytes, after) = split_at_byte(self.rest, b'\n');
         let number = self.passed + 1;
         *self = Lines {
-            rest,
+            rest: after.unwrap_or(&[]),
             passed: number,
         };
         Some(Line {
             bytes,
             number,
-            finished,
+            finished: after.is_some(),
         })
     }
-}
-
-// The first field of a text, and what follows the byte 9 behind it, if one does.
-fn cut_field<'a>(rest: &'a [u8]) -> (&'a [u8], Option<&'a [u8]>)
-    ensures cut { fields_of rest.now ≡ result.0.now ∷ fields_left (λ x. x.now) result.1 }
-    ensures fewer { at_most (λ x. x.now) result.1 ≤ length rest.now }
-    ensures fields { Fielded rest.now }
-{
-    let length = run_to(rest, b'\t');
-    let after = if length < rest.len() {
-        Some(&rest[length + 1..])
-    } else {
-        None
-    };
-    (&rest[0..length], after)
 }
 
 impl<'a> Fields<'a> {
     /// All fields of a line.
     pub fn new(line: &'a [u8]) -> Fields<'a>
-        ensures rest { fields_left (λ x. x.now) result.rest ≡ fields_of line.now }
+        ensures rest { fields_left (λ x. x) result.rest ≡ fields_of line.now }
         ensures passed { result.passed ≡ 0 }
     {
         Fields {
@@ -147,29 +137,23 @@ impl<'a> Fields<'a> {
 
     /// The fields that follow the first one, where `rest` is what stands behind its byte 9, if one follows it.
     pub fn after_first(rest: Option<&'a [u8]>) -> Fields<'a>
-        ensures rest { fields_left (λ x. x.now) result.rest ≡ fields_left (λ x. x.now) rest.entry }
+        ensures rest { fields_left (λ x. x) result.rest ≡ fields_left (λ x. x.now) rest.entry }
         ensures passed { result.passed ≡ 1 }
     {
-        match rest {
-            Some(text) => Fields {
-                rest: Some(text),
-                passed: 1,
-            },
-            None => Fields {
-                rest: None,
-                passed: 1,
-            },
-        }
+        Fields { rest, passed: 1 }
     }
+}
 
-    /// The next field, if there is one: what stands up to the next byte 9, or up to the line's end.
-    pub fn next(&mut self) -> Option<Field<'a>>
-        ensures cases { MatchOption result
-            ((fields_left (λ x. x.now) self.old.rest ≡ []) × (fields_left (λ x. x.now) self.new.rest ≡ []) × (self.new.passed ≡ self.old.passed))
-            (λ f. (fields_left (λ x. x.now) self.old.rest ≡ f.bytes.now ∷ fields_left (λ x. x.now) self.new.rest) × (f.number ≡ self.old.passed + 1) × (self.new.passed ≡ f.number)) }
-        ensures fields { IfSome self.old.rest (λ t. Fielded t.now) }
-    {
-        let (bytes, rest) = cut_field(self.rest?);
+/// Hands out what stands up to the next byte 9, or up to the line's end.
+impl<'a> Iterator for Fields<'a> {
+    type Item = Field<'a>;
+
+    ghost next_gives = { λ s r t. YieldsFirstBy (λ f. f.bytes.now) (λ s. fields_left (λ x. x) s.rest) s r t × Numbers s.passed (λ f. f.number) r t.passed × IfSome s.rest Fielded };
+
+    ghost remaining = { item_count (λ s. fields_left (λ x. x) s.rest) };
+
+    fn next(&mut self) -> Option<Field<'a>> {
+        let (bytes, rest) = split_at_byte(self.rest?, b'\t');
         let number = self.passed + 1;
         *self = Fields {
             rest,
@@ -190,11 +174,11 @@ pub fn read_number(field: &[u8]) -> Option<u16>
         return None;
     }
     let mut value: u16 = 0;
-    for byte in field {
-        if *byte < b'0' || *byte > b'9' {
+    for digit in field {
+        if !digit.is_ascii_digit() {
             return None;
         }
-        value = value * 10 + u16::from(*byte - b'0');
+        value = value * 10 + u16::from(*digit - b'0');
     }
     Some(value)
 }

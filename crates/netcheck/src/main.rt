@@ -2,10 +2,11 @@
 
 #![tactic(auto)]
 
-ghost use Rattle.std.specs.Prelude.{◌≤◌, length, IfOk};
+ghost use Rattle.std.specs.Prelude.{◌≡◌, take, IfOk, IfSome};
 
 use answers::{LIMIT, answer};
-use anyhow::anyhow;
+use anyhow::bail;
+use std::alloc::Global;
 use std::io::{Read, Write};
 use std::process::ExitCode;
 use std::{env, io};
@@ -25,43 +26,34 @@ docs/FORMAT.md has the format, docs/RULES.md what networks are, docs/REFUSALS.md
 The exit status is 0 for both answers, and 1 where the system fails.
 ";
 
-// Reads until the input ends or the buffer is full, and answers how much of the buffer is filled.
-fn read_all(input: &mut impl Read, buffer: &mut [u8]) -> io::Result<usize>
-    ensures { IfOk result (λ n. n ≤ length buffer.old) }
+// How many bytes are read at most: one more than the limit tells an input that is too long.
+const MAX_READ: u64 = LIMIT as u64 + 1;
+
+// Reads the input to its end, or so many bytes.
+fn read_input<R: Read>(heap: Global, input: &mut R) -> io::Result<Vec<u8>>
+    ensures { IfOk result (λ v. IfSome (R.remaining input.old) (λ bytes. v.items ≡ take MAX_READ bytes)) }
 {
-    let mut len = 0;
-    while len < buffer.len() {
-        let n = input.read(&mut buffer[len..])?;
-        if n == 0 {
-            return Ok(len);
-        }
-        len += n;
-    }
-    Ok(len)
+    let mut bytes = Vec::new(heap);
+    input.take(MAX_READ).read_to_end(&mut bytes)?;
+    Ok(bytes)
 }
 
-// One byte more than the limit tells an input that is too long.
 fn check_input(rt: &HostRuntime) -> anyhow::Result<()> {
-    let mut buffer = [0u8; LIMIT + 1];
-    let len = read_all(&mut rt.stdin(), &mut buffer)?;
-    let line = answer(rt.alloc(), &buffer[0..len])?;
+    let input = read_input(rt.alloc(), &mut rt.stdin())?;
+    let line = answer(rt.alloc(), input.as_slice())?;
     rt.stdout().write_all(line.as_bytes())?;
     Ok(())
 }
 
 fn run(rt: &HostRuntime) -> anyhow::Result<()> {
-    let mut args = env::args(rt)?;
-    let _ = args.next();
-    match args.next() {
-        None => check_input(rt),
-        Some(word) => {
-            if word.as_str() == "--help" {
-                rt.stdout().write_all(USAGE.as_bytes())?;
-                return Ok(());
-            }
-            Err(anyhow!("unknown argument; netcheck --help tells how it is used"))
-        }
+    let Some(word) = env::args(rt)?.nth(1) else {
+        return check_input(rt);
+    };
+    if word.as_str() != "--help" {
+        bail!("unknown argument; netcheck --help tells how it is used");
     }
+    rt.stdout().write_all(USAGE.as_bytes())?;
+    Ok(())
 }
 
 fn main(rt: HostRuntime) -> ExitCode {

@@ -12,11 +12,11 @@ use Rattle.networks.specs.declared.faults.TableFault.TheVariants.{Text, TooManyR
 use Rattle.networks.specs.Nets.{Net}
 use Rattle.tables.specs.declared.table.Table.{Table}
 use Rattle.tables.specs.Drawn.{drawn, adding}
-use Rattle.tables.specs.Makes.{SizeFits, SizeMisfit, Takes, Misfit}
+use Rattle.tables.specs.Makes.{limit, SizeFits, SizeMisfit, Takes, Misfit}
 use Rattle.tables.specs.Meaning.{meaning_of}
 use Rattle.tables.proofs.ByRecord as table
 use Rattle.netfiles.specs.Reading as reading
-use Rattle.netfiles.specs.Reading.{limit, Accepted, Refused, Wanting}
+use Rattle.netfiles.specs.Reading.{Accepted, Refused, Wanting}
 
 -- The lines so far say the size and n records, which fit and are in the table; `left` are to come.
 pub record Both (file : List ℕ) (s : Size) (n passed : ℕ) (left : List RawLine) (t : Table) : Type 0 where
@@ -57,7 +57,7 @@ begins file s passed left t says rest count fits e =
     record { lines = u; records = subst (λ (rs : List Record). table.Upto s rs t) (sym (nil_from_length u.rs (sym u.count))) (record { size = fits; fit = table.fit_none s; meaning = e }) }
 
 module _ (file : List ℕ) (room : ℕ) (s : Size) (n passed m : ℕ) (left rest : List RawLine) (t : Table) (b : Both file s n passed left t) where
-  pub text_refused : (f : TextFault) → NextSays passed left (Err f) m rest → Refused file room (Text f)
+  pub text_refused : (f : TextFault) → NextSays passed left (Some (Err f)) m rest → Refused file room (Text f)
   text_refused f h =
       let u = b.lines in
       let e = u.lines in
@@ -65,7 +65,7 @@ module _ (file : List ℕ) (room : ℕ) (s : Size) (n passed m : ℕ) (left rest
       let p : passed + 1 ≡ length u.good + 2 = let k = u.place in omega arith in
       reading.later u.head h.0 u.good rest s u.rs (cc) u.size b.records.size u.say b.records.fit (reading.text f (rw p at h.2) refl)
 
-  pub record_refused : (r : Record) (line : ℕ) (f : TableFault) → NextSays passed left (Ok (Some r)) m rest → line ≡ m → Misfit (meaning_of t) line r f → Refused file room f
+  pub record_refused : (r : Record) (line : ℕ) (f : TableFault) → NextSays passed left (Some (Ok r)) m rest → line ≡ m → Misfit (meaning_of t) line r f → Refused file room f
   record_refused r line f h is x =
       let u = b.lines in
       let e = u.lines in
@@ -74,17 +74,17 @@ module _ (file : List ℕ) (room : ℕ) (s : Size) (n passed m : ℕ) (left rest
       let y : Misfit (drawn s u.rs) (length u.good + 2) r f = subst (λ (k : ℕ). Misfit (drawn s u.rs) k r f) p (subst (λ (net : Net). Misfit net line r f) b.records.meaning x) in
       reading.later u.head h.0 u.good rest s u.rs (cc) u.size b.records.size u.say b.records.fit (reading.misfit r h.2 y)
 
-  pub goes_on : (r : Record) (v : Table) → NextSays passed left (Ok (Some r)) m rest → Takes (meaning_of t) r → meaning_of v ≡ adding (meaning_of t) r → Both file s (n + 1) m rest v
+  pub goes_on : (r : Record) (v : Table) → NextSays passed left (Some (Ok r)) m rest → Takes (meaning_of t) r → meaning_of v ≡ adding (meaning_of t) r → Both file s (n + 1) m rest v
   unfolding lines.goes_on
   goes_on r v h takes e = record { lines = lines.goes_on file s n passed m left rest r b.lines h; records = table.goes_on s b.lines.rs r t v b.records takes e }
 
-  pub accepted : NextSays passed left (Ok None) m rest → n ≤ limit room → (rs : List Record) × Accepted file room s rs × (n ≡ length rs)
+  pub accepted : NextSays passed left None m rest → n ≤ limit room → (rs : List Record) × Accepted file room s rs × (n ≡ length rs)
   accepted h few =
       let r = lines.all_read file s n passed m left rest b.lines h in
       let c = b.lines.count in
       (b.lines.rs, record { reads = r; size = b.records.size; fit = b.records.fit; few = omega arith }, c)
 
-  pub too_many : (f : TableFault) → NextSays passed left (Ok None) m rest → limit room < n → f ≡ TooManyRecords (limit room + 2) → Refused file room f
+  pub too_many : (f : TableFault) → NextSays passed left None m rest → limit room < n → f ≡ TooManyRecords (limit room + 2) → Refused file room f
   too_many f h l e =
       let r = lines.all_read file s n passed m left rest b.lines h in
       let c = b.lines.count in

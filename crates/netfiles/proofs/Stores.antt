@@ -1,5 +1,7 @@
 -- Storing the records of a file.
-use Rattle.std.proofs.Common.{◌≡◌, ℕ, ◌+◌, ◌-◌, ◌<◌, ◌≤◌, List, [], ◌∷◌, ◌++◌, length, drop, set, Some, None, Ok, Err, sym, refl, ap, ◌∙◌, arith}
+use Rattle.std.proofs.Common.{◌≡◌, ℕ, ◌+◌, ◌-◌, ◌<◌, ◌≤◌, List, [], ◌∷◌, ◌++◌, length, drop, set, Option, Some, None, Result, Ok, Err, sym, refl, ap, ◌∙◌, arith}
+use Rattle.std.specs.Option.{MatchOption}
+use Rattle.std.specs.Result.{result_ok}
 use Rattle.std.proofs.lemmas.List.{append_assoc, length-append, set-append_right, drop_more, nil_from_length}
 use Rattle.lines.specs.Pieces.{RawLine, lines_of}
 use Rattle.records.specs.declared.faults.TextFault.{TextFault}
@@ -19,6 +21,12 @@ pub record Storing (file : List ℕ) (passed : ℕ) (left : List RawLine) (at : 
   pub lines : lines.Upto file size at passed left
   pub stored : new ≡ (lines).rs ++ drop at old
 
+-- what the reader gave, where a record was handed on
+pub handed_on : {N : Type 0} {C : Result Record TextFault → Type 0} (r : Record) (o : Option (Result Record TextFault)) → (N → ⊥) → ((x : Result Record TextFault) → C x → Some r ≡ result_ok x) → MatchOption o N C → o ≡ Some (Ok r)
+handed_on r None some gives h = absurd (some h)
+handed_on r (Some (Ok x)) some gives h = let e = gives (Ok x) h in cc
+handed_on r (Some (Err f)) some gives h = let e = gives (Err f) h in cc
+
 first_says : (file : List ℕ) (s : Size) (rs : List Record) → Reads file s rs → FirstSays (lines_of file) (Ok s)
 first_says file s rs r = rw (lines_read file s rs r) (size_read file s rs r)
 
@@ -32,7 +40,7 @@ rows-length [] = refl
 rows-length (r ∷ rs) = let e = rows-length rs in omega arith
 
 module _ (file : List ℕ) (passed m at : ℕ) (left rest : List RawLine) (old new : List Record) (b : Storing file passed left at old new) where
-  pub room : (r : Record) → NextSays passed left (Ok (Some r)) m rest → at < length old
+  pub room : (r : Record) → NextSays passed left (Some (Ok r)) m rest → at < length old
   room r h =
       let u = b.lines in
       let e = ap length u.lines in
@@ -45,7 +53,7 @@ module _ (file : List ℕ) (passed m at : ℕ) (left rest : List RawLine) (old n
       let f = b.few in
       omega arith
 
-  pub goes_on : (r : Record) → NextSays passed left (Ok (Some r)) m rest → Storing file m rest (at + 1) old (set new at r)
+  pub goes_on : (r : Record) → NextSays passed left (Some (Ok r)) m rest → Storing file m rest (at + 1) old (set new at r)
   unfolding lines.goes_on
   goes_on r h =
       let u = b.lines in
@@ -66,10 +74,13 @@ module _ (file : List ℕ) (passed m at : ℕ) (left rest : List RawLine) (old n
       first_set : (xs ys : List Record) → {x : Record} → xs ≡ x ∷ ys → set xs 0 r ≡ r ∷ ys
       first_set xs ys e = ap (λ zs. set zs 0 r) e
 
-  pub no_fault : (f : TextFault) → NextSays passed left (Err f) m rest → ⊥
-  no_fault f h = reads_or_fault file b.size b.records f b.reads (lines.record_fault file b.size at passed m left rest f b.lines h)
+  -- nothing was handed on, as there are no lines left and not as one has a fault
+  pub ended : (N : Type 0) {C : Result Record TextFault → Type 0} (o : Option (Result Record TextFault)) → ((x : Result Record TextFault) → C x → None ≡ result_ok x) → MatchOption o N C → NextSays passed left o m rest → NextSays passed left None m rest
+  ended N None gives h next = next
+  ended N (Some (Ok r)) gives h next = let e = gives (Ok r) h in cc
+  ended N (Some (Err f)) gives h next = absurd (reads_or_fault file b.size b.records f b.reads (lines.record_fault file b.size at passed m left rest f b.lines next))
 
-  pub done : (s : Size) (rs : List Record) → Reads file s rs → NextSays passed left (Ok None) m rest → new ≡ rs ++ drop (length rs) old
+  pub done : (s : Size) (rs : List Record) → Reads file s rs → NextSays passed left None m rest → new ≡ rs ++ drop (length rs) old
   done s rs reads h =
       let u = b.lines in
       let all = lines.all_read file b.size at passed m left rest u h in

@@ -1,12 +1,14 @@
 -- The lines of records that make a table, written one behind the other.
-use Rattle.std.proofs.Common.{◌≡◌, ℕ, zero, suc, ◌+◌, ◌<◌, ◌≤◌, ◌⊎◌, List, [], ◌∷◌, length, get_or, take, Err, sym, refl, ap, subst, inl, inr, arith}
+use Rattle.std.proofs.Common.{◌≡◌, ℕ, zero, suc, ◌+◌, ◌<◌, ◌≤◌, ◌⊎◌, List, [], ◌∷◌, length, get_or, take, Ok, Err, Result, sym, refl, ap, subst, inl, inr, arith}
 use Rattle.std.proofs.lemmas.List.{take_all}
+use Rattle.std.proofs.lemmas.List.Folds.{length-flat_map-take}
 use Rattle.std.specs.List.{AllByRecursion}
+use Rattle.std.specs.Result.{IsOk}
 use Rattle.records.specs.declared.Record.{Record}
 use Rattle.records.specs.declared.Record.TheVariants.{Entry, Home, Way}
 use Rattle.records.specs.declared.Size.{Size}
 use Rattle.records.specs.declared.writing.WriteFault.{WriteFault}
-use Rattle.records.specs.Rendering.{file_text, finished, letter_n, size_text, size_numbers, letter_of, numbers_of, Small, AllSmall}
+use Rattle.records.specs.Rendering.{file_text, finished, line_text, size_text, size_numbers, letter_of, numbers_of, Small, AllSmall}
 use Rattle.records.specs.Writes.{Wrote, WritesLine}
 use Rattle.records.proofs.Texts.{wrote_front, wrote_then}
 use Rattle.networks.specs.declared.faults.StudyFault.TheVariants.{Table}
@@ -19,7 +21,7 @@ use Rattle.files.proofs.OneAnswer.{reads_one}
 use Rattle.tables.specs.Drawn.{drawn}
 use Rattle.tables.specs.Makes.{SizeFits, Within, Acceptable, RecordsFault}
 use Rattle.netfiles.specs.Writing.{Written, Unwritten, faulty, wanting}
-use Rattle.netfiles.proofs.Totals.{record_line, record_lines, lines_more, lines_split, length-file}
+use Rattle.netfiles.proofs.Totals.{record_line, record_lines, lines_more}
 
 -- numbers below their counts have at most four digits
 small_size : (s : Size) → SizeFits s → Small (size_numbers s)
@@ -42,18 +44,17 @@ small_at [] i d h a = absurd (omega arith)
 small_at (r ∷ rs) zero d h a = a.0
 small_at (r ∷ rs) (suc i) d h a = small_at rs i d (omega arith) a.1
 
--- the line of a record is written where the bytes suffice for all
-pub record_surely : (rs : List Record) (i at end : ℕ) (old half new : List ℕ) (x : WriteFault) (d : Record) → i < length rs → AllSmall rs → at + length (record_lines rs) ≤ length half → Wrote (record_lines (take i rs)) at old half end → WritesLine (letter_of (get_or rs i d)) (numbers_of (get_or rs i d)) end half (Err x) new → ⊥
-record_surely rs i at end old half new x d h small room w =
-    let split = lines_split rs i d h in
-    let ends = w.ends in
-    surely (letter_of (get_or rs i d)) (numbers_of (get_or rs i d)) end half new x (small_at rs i d h small) (omega arith)
+-- a line of numbers of at most four digits is written where the bytes suffice
+is_written : (letter : ℕ) (ns : List ℕ) (at : ℕ) (old new : List ℕ) (r : Result ℕ WriteFault) → Small ns → at + length (finished (line_text letter ns)) ≤ length old → WritesLine letter ns at old r new → IsOk r
+is_written letter ns at old new (Ok end) small room w = refl
+is_written letter ns at old new (Err x) small room w = absurd (surely letter ns at old new x small room w)
 
--- so is that of the size
-pub size_surely : (s : Size) (rs : List Record) (old new : List ℕ) (x : WriteFault) → Acceptable s rs → length (file_text s rs) ≤ length old → WritesLine letter_n (size_numbers s) 0 old (Err x) new → ⊥
-size_surely s rs old new x a room =
-    let l = length-file s rs in
-    surely letter_n (size_numbers s) 0 old new x (small_size s a.size) (omega arith)
+-- the line of a record is, where the bytes suffice for all
+pub record_written : (rs : List Record) (i at end : ℕ) (old half new : List ℕ) (r : Result ℕ WriteFault) (d : Record) → i < length rs → AllSmall rs → at + length (record_lines rs) ≤ length half → Wrote (record_lines (take i rs)) at old half end → WritesLine (letter_of (get_or rs i d)) (numbers_of (get_or rs i d)) end half r new → IsOk r
+record_written rs i at end old half new r d h small room w =
+    let split = length-flat_map-take record_line rs i d h in
+    let ends = w.ends in
+    is_written (letter_of (get_or rs i d)) (numbers_of (get_or rs i d)) end half new r (small_at rs i d h small) (omega arith)
 
 pub one_more : (rs : List Record) (i at end next : ℕ) (old half new : List ℕ) (d : Record) → i < length rs → length half ≡ length old → Wrote (record_lines (take i rs)) at old half end → Wrote (record_line (get_or rs i d)) end half new next → Wrote (record_lines (take (i + 1) rs)) at old new next
 one_more rs i at end next old half new d h same w v =
@@ -61,10 +62,6 @@ one_more rs i at end next old half new d h same w v =
 
 pub all_written : (rs : List Record) (i at end : ℕ) (old new : List ℕ) → length rs ≤ i → Wrote (record_lines (take i rs)) at old new end → Wrote (record_lines rs) at old new end
 all_written rs i at end old new h w = rw (take_all i rs h) at w
-
--- behind the size there is room for the records
-pub records_room : (s : Size) (rs : List Record) (old half : List ℕ) (end : ℕ) → length (file_text s rs) ≤ length old → length half ≡ length old → Wrote (finished (size_text s)) 0 old half end → end + length (record_lines rs) ≤ length half
-records_room s rs old half end room same w = let l = length-file s rs in let e = w.ends in omega arith
 
 -- records that make no table
 pub refused : (s : Size) (rs : List Record) (room : ℕ) (t : TableFault) → RecordsFault s rs t ⊎ (SizeFits s × (t ≡ NoMemory)) → Unwritten s rs room (Table t)

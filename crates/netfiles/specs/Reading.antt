@@ -1,5 +1,5 @@
 -- Reading a network file into a lent list of records.
-use Rattle.std.specs.Prelude.{◌≡◌, ℕ, ◌+◌, ◌<◌, ◌≤◌, min, ◌⊎◌, List, [], ◌∷◌, ◌++◌, length, take, drop, Ok, Err, Result}
+use Rattle.std.specs.Prelude.{◌≡◌, ℕ, ◌+◌, ◌<◌, ◌≤◌, ◌⊎◌, List, [], ◌∷◌, ◌++◌, length, take, drop, Ok, Err, Result}
 use Rattle.lines.specs.Pieces.{RawLine, lines_of}
 use Rattle.records.specs.declared.faults.TextFault.{TextFault}
 use Rattle.records.specs.declared.faults.TextFault.TheVariants.{NoSize}
@@ -12,11 +12,7 @@ use Rattle.files.specs.Says.{SaysSize, SayRecords, SaysRecord, SizeFault, Record
 use Rattle.networks.specs.declared.faults.TableFault.{TableFault}
 use Rattle.networks.specs.declared.faults.TableFault.TheVariants.{Text, TooManyRecords, NoMemory}
 use Rattle.tables.specs.Drawn.{drawn}
-use Rattle.tables.specs.Makes.{most, SizeFits, SizeMisfit, Fit, Misfit}
-
--- how many records are read into a list with room for so many
-abbrev pub limit : ℕ → ℕ
-limit room = min room most
+use Rattle.tables.specs.Makes.{limit, SizeFits, SizeMisfit, Fit, Misfit}
 
 -- The file says a size and records that make a table, and there is room for them.
 pub record Accepted (file : List ℕ) (room : ℕ) (s : Size) (rs : List Record) : Type 0 where

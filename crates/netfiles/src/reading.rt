@@ -1,29 +1,17 @@
 //! Reading a network file into a lent list of records.
 
-ghost use Rattle.std.specs.Prelude.{◌≡◌, ◌+◌, ◌<◌, ◌≤◌, ◌⊎◌, List, ◌++◌, length, drop, MatchResult};
+ghost use Rattle.std.specs.Prelude.{◌≡◌, ◌⊎◌, List, ◌++◌, length, drop, MatchResult};
 ghost use Rattle.records.specs.declared.Record.{Record};
 ghost use Rattle.records.specs.declared.Size.{Size};
 ghost use Rattle.files.specs.Says.{Reads};
-ghost use Rattle.networks.specs.declared.faults.TableFault.TheVariants.{TooManyRecords};
-ghost use Rattle.netfiles.specs.Reading.{limit, Accepted, Refused, Wanting, Storable, Reading, OneReading};
+ghost use Rattle.netfiles.specs.Reading.{Accepted, Refused, Wanting, Storable, Reading, OneReading};
 
 use files::judging::Summary;
 use files::reading::Reader;
 use networks::faults::TableFault;
 use records::Record;
 use std::alloc::Global;
-use tables::{MAX_RECORDS, Table};
-
-// Refuses more records than go into a list with room for so many.
-fn check_count(count: usize, room: usize) -> Result<(), TableFault>
-    ensures { MatchResult result (λ _. count ≤ limit room) (λ f. (limit room < count) × (f ≡ TooManyRecords (limit room + 2))) }
-{
-    let most = room.min(MAX_RECORDS);
-    if count > most {
-        return Err(TableFault::TooManyRecords { line: most + 2 });
-    }
-    Ok(())
-}
+use tables::{Table, check_count};
 
 // Judges a file whose records are to go into a list with room for so many: the size and the number of records, or the fault.
 fn judge_file(heap: Global, file: &[u8], room: usize) -> Result<Summary, TableFault>
@@ -35,8 +23,8 @@ fn judge_file(heap: Global, file: &[u8], room: usize) -> Result<Summary, TableFa
     let size = reader.size()?;
     let mut table = Table::blank(heap, size)?;
     let mut records = 0;
-    while let Some(record) = reader.record()? {
-        table.add(reader.line(), record)?;
+    while let Some(record) = reader.next() {
+        table.add(reader.line(), record?)?;
         records += 1;
     }
     check_count(records, room)?;
@@ -48,14 +36,8 @@ fn store(file: &[u8], list: &mut [Record])
     requires { Storable file.now (length list.old) }
     ensures { (s : Size) (rs : List Record) → Reads file.now s rs → list.new ≡ rs ++ drop (length rs) list.old }
 {
-    let mut reader = Reader::new(file);
-    let mut at = 0;
-    while let Ok(next) = reader.record() {
-        let Some(record) = next else {
-            return;
-        };
+    for (at, record) in Reader::new(file).map_while(Result::ok).enumerate() {
         list[at] = record;
-        at += 1;
     }
 }
 

@@ -1,39 +1,33 @@
 //! Writing a size and records as a network file.
 
-ghost use Rattle.std.specs.Prelude.{◌≡◌, ◌+◌, ◌<◌, ◌≤◌, length, MatchResult};
-ghost use Rattle.std.specs.List.{flat_map};
-ghost use Rattle.networks.specs.declared.faults.Buffer.TheVariants.{File};
-ghost use Rattle.networks.specs.declared.faults.StudyFault.TheVariants.{Short};
+ghost use Rattle.std.specs.Prelude.{◌≡◌, ◌+◌, ◌*◌, ◌≤◌, length};
+ghost use Rattle.std.specs.List.{flat_map, sum_by};
 ghost use Rattle.records.specs.Rendering.{file_text, finished, record_text, AllSmall};
 ghost use Rattle.records.specs.Writes.{Wrote};
 ghost use Rattle.tables.specs.Makes.{most};
 ghost use Rattle.netfiles.specs.Writing.{Writing};
 
 use networks::faults::{Buffer, StudyFault};
+use records::writing::Statement;
 use records::{Record, Size};
 use std::alloc::Global;
 use tables::Table;
 
-// How many bytes the file takes.
-fn text_len(size: Size, records: &[Record]) -> usize
+// How many bytes the lines of the records take.
+fn lines_len(records: &[Record]) -> usize
     requires { length records.now ≤ most }
-    ensures { result ≡ length (file_text size records.now) }
+    ensures { result ≡ sum_by (λ r. length (finished (record_text r))) records.now }
 {
-    let mut len = size.text_len();
-    for record in records {
-        len += record.text_len();
-    }
-    len
+    records.iter().map(|r| r.text_len()).sum()
 }
 
-// Refuses a file that is shorter than what is to be written.
-fn check_room(room: usize, len: usize) -> Result<(), StudyFault>
-    ensures { MatchResult result (λ _. len ≤ room) (λ f. (room < len) × (f ≡ Short File)) }
+// How many bytes the file takes.
+fn text_len(size: Size, records: &[Record]) -> usize
+    requires few { length records.now ≤ most }
+    requires small { AllSmall records.now }
+    ensures { result ≡ length (file_text size records.now) }
 {
-    if room < len {
-        return Err(StudyFault::Short(Buffer::File));
-    }
-    Ok(())
+    size.text_len() + lines_len(records)
 }
 
 // Writes each record's line behind the one before, from `at` on, and answers where the last one ends.
@@ -44,10 +38,7 @@ fn write_records(records: &[Record], file: &mut [u8], at: usize) -> usize
 {
     let mut end = at;
     for record in records {
-        let Ok(next) = record.write(file, end) else {
-            unreachable()
-        };
-        end = next;
+        end = record.write(file, end).unwrap();
     }
     end
 }
@@ -63,11 +54,8 @@ pub fn write_network(
     ensures { Writing size records.now file.old result file.new }
 {
     // making the table judges the records
-    let table = Table::new(heap, size, records)?;
-    drop(table);
-    check_room(file.len(), text_len(size, records))?;
-    let Ok(end) = size.write(file, 0) else {
-        unreachable()
-    };
+    Table::new(heap, size, records)?;
+    Buffer::File.check(text_len(size, records), file.len())?;
+    let end = size.write(file, 0).unwrap();
     Ok(write_records(records, file, end))
 }

@@ -1,7 +1,8 @@
 -- The parts by which the faults of tables and of calls are told.
 use Rattle.std.specs.Prelude.{ℕ}
 use Rattle.records.specs.declared.faults.Layer.TheVariants.{Table, Study}
-use Rattle.records.specs.Faults.{Parts, parts_of}
+use Rattle.records.specs.Faults.{parts_of}
+use Rattle.records.specs.declared.faults.Parts.{Parts}
 use Rattle.networks.specs.declared.faults.Buffer.{Buffer}
 use Rattle.networks.specs.declared.faults.Buffer.TheVariants.{Allowed, Work, File}
 use Rattle.networks.specs.declared.faults.TableFault.{TableFault}

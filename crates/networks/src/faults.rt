@@ -1,12 +1,15 @@
 //! Faults of tables and of calls. A fault of a lower layer goes whole into the fault above it.
 
-ghost use Rattle.std.specs.Prelude.{◌≡◌};
+ghost use Rattle.std.specs.Prelude.{◌≡◌, Some, ◌<◌, ◌≤◌, MatchResult};
+ghost use Rattle.records.specs.Faults.{told};
 ghost use Rattle.networks.specs.Faults.{field_of, table_parts, study_parts};
 ghost use Rattle.networks.specs.declared.faults.TableFault.TheVariants.{Text, NoMemory};
-ghost use Rattle.networks.specs.declared.faults.StudyFault.TheVariants.{Table};
+ghost use Rattle.networks.specs.declared.faults.StudyFault.TheVariants.{Table, Short};
 
-use records::faults::{Layer, TextFault};
+use records::faults::{Fault, Layer, Parts, TextFault};
 use std::alloc::AllocError;
+use std::error::Error;
+use std::fmt;
 
 /// Why a file or a list of records makes no table.
 #[derive(Clone, Copy, PartialEq, Eq, Debug)]
@@ -79,98 +82,73 @@ impl Buffer {
             Buffer::File => 5,
         }
     }
+
+    /// Refuses a buffer that is shorter than it has to be.
+    pub fn check(self, needed: usize, given: usize) -> Result<(), StudyFault>
+        ensures { MatchResult result (λ _. needed ≤ given) (λ f. (given < needed) × (f ≡ Short self)) }
+    {
+        if given < needed {
+            return Err(StudyFault::Short(self));
+        }
+        Ok(())
+    }
 }
 
-impl TableFault {
-    pub fn layer(self) -> Layer
-        ensures { result ≡ (table_parts self).layer }
-    {
-        match self {
-            TableFault::Text(fault) => fault.layer(),
-            _ => Layer::Table,
-        }
-    }
+impl Fault for TableFault {
+    ghost parts = { table_parts };
 
-    pub fn number(self) -> u16
-        ensures { result ≡ (table_parts self).number }
-    {
-        match self {
-            TableFault::Text(fault) => fault.number(),
-            TableFault::SizeOutOfLimits { .. } => 15,
-            TableFault::OutOfRange { .. } => 16,
-            TableFault::NinthWay { .. } => 17,
-            TableFault::TooManyRecords { .. } => 18,
-            TableFault::NoMemory => 19,
-        }
-    }
-
-    /// The line, from 1 on, or 0 where no line is meant.
-    pub fn line(self) -> usize
-        ensures { result ≡ (table_parts self).line }
-    {
-        match self {
-            TableFault::Text(fault) => fault.line(),
-            TableFault::SizeOutOfLimits { .. } => 1,
-            TableFault::OutOfRange { line, .. } => line,
-            TableFault::NinthWay { line } => line,
-            TableFault::TooManyRecords { line } => line,
-            TableFault::NoMemory => 0,
-        }
-    }
-
-    /// The field, from 1 on, or 0 where the fault is the whole line's or no line's.
-    pub fn field(self) -> usize
-        ensures { result ≡ (table_parts self).field }
-    {
-        match self {
-            TableFault::Text(fault) => fault.field(),
-            TableFault::SizeOutOfLimits { field } => field,
-            TableFault::OutOfRange { field, .. } => field,
-            TableFault::NinthWay { .. } => 0,
-            TableFault::TooManyRecords { .. } => 0,
-            TableFault::NoMemory => 0,
+    fn parts(self) -> Parts {
+        let (number, line, field) = match self {
+            TableFault::Text(fault) => return fault.parts(),
+            TableFault::SizeOutOfLimits { field } => (15, 1, field),
+            TableFault::OutOfRange { line, field } => (16, line, field),
+            TableFault::NinthWay { line } => (17, line, 0),
+            TableFault::TooManyRecords { line } => (18, line, 0),
+            TableFault::NoMemory => (19, 0, 0),
+        };
+        Parts {
+            layer: Layer::Table,
+            number,
+            line,
+            field,
         }
     }
 }
 
-impl StudyFault {
-    pub fn layer(self) -> Layer
-        ensures { result ≡ (study_parts self).layer }
-    {
-        match self {
-            StudyFault::Table(fault) => fault.layer(),
-            _ => Layer::Study,
-        }
-    }
+impl Fault for StudyFault {
+    ghost parts = { study_parts };
 
-    pub fn number(self) -> u16
-        ensures { result ≡ (study_parts self).number }
-    {
-        match self {
-            StudyFault::Table(fault) => fault.number(),
-            StudyFault::Short(_) => 20,
-            StudyFault::SpidergonSize => 21,
-        }
-    }
-
-    /// The line, from 1 on, or 0 where no line is meant.
-    pub fn line(self) -> usize
-        ensures { result ≡ (study_parts self).line }
-    {
-        match self {
-            StudyFault::Table(fault) => fault.line(),
-            _ => 0,
-        }
-    }
-
-    /// The field of a line, the code of a buffer, or 0.
-    pub fn field(self) -> usize
-        ensures { result ≡ (study_parts self).field }
-    {
-        match self {
-            StudyFault::Table(fault) => fault.field(),
-            StudyFault::Short(buffer) => buffer.field(),
-            StudyFault::SpidergonSize => 0,
+    fn parts(self) -> Parts {
+        let (number, field) = match self {
+            StudyFault::Table(fault) => return fault.parts(),
+            StudyFault::Short(buffer) => (20, buffer.field()),
+            StudyFault::SpidergonSize => (21, 0),
+        };
+        Parts {
+            layer: Layer::Study,
+            number,
+            line: 0,
+            field,
         }
     }
 }
+
+impl fmt::Display for TableFault {
+    ghost output = { λ f. Some (told (table_parts f)) };
+
+    fn fmt<W: fmt::Write>(&self, f: &mut fmt::Formatter<W>) -> fmt::Result {
+        TableFault::parts(*self).fmt(f)
+    }
+}
+
+impl Error for TableFault {}
+
+impl fmt::Display for StudyFault {
+    ghost output = { λ f. Some (told (study_parts f)) };
+
+    fn fmt<W: fmt::Write>(&self, f: &mut fmt::Formatter<W>) -> fmt::Result {
+        StudyFault::parts(*self).fmt(f)
+    }
+}
+
+impl Error for StudyFault {}

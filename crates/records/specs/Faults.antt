@@ -1,15 +1,10 @@
 -- The parts by which a fault is told.
-use Rattle.std.specs.Prelude.{ℕ, List, codes}
+use Rattle.std.specs.Prelude.{ℕ, List, ◌++◌, codes, decimal}
 use Rattle.records.specs.declared.faults.Layer.{Layer}
 use Rattle.records.specs.declared.faults.Layer.TheVariants.{Text, Table, Study}
+use Rattle.records.specs.declared.faults.Parts.{Parts}
 use Rattle.records.specs.declared.faults.TextFault.{TextFault}
 use Rattle.records.specs.declared.faults.TextFault.TheVariants.{NoSize, UnknownLetter, WrongShape, NoNumber, SizeAgain}
-
-pub record Parts : Type 0 where
-  pub layer : Layer
-  pub number : ℕ
-  pub line : ℕ
-  pub field : ℕ
 
 -- the word for a layer
 abbrev pub word_of : Layer → List ℕ
@@ -23,3 +18,7 @@ parts_of (UnknownLetter line) = record { layer = Text; number = 11; line = line;
 parts_of (WrongShape line) = record { layer = Text; number = 12; line = line; field = 0 }
 parts_of (NoNumber line field) = record { layer = Text; number = 13; line = line; field = field }
 parts_of (SizeAgain line) = record { layer = Text; number = 14; line = line; field = 1 }
+
+-- a fault as it is printed for people
+abbrev pub told : Parts → List ℕ
+told p = codes "fault " ++ (word_of p.layer ++ (codes " " ++ (decimal p.number ++ (codes ", line " ++ (decimal p.line ++ (codes ", field " ++ decimal p.field))))))

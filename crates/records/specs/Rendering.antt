@@ -1,6 +1,6 @@
 -- How sizes, records and files are written.
 use Rattle.std.specs.Prelude.{ℕ, ◌<◌, List, [], ◌∷◌, ◌++◌, decimal}
-use Rattle.std.specs.List.{flat_map}
+use Rattle.std.specs.List.{AllByRecursion, flat_map}
 use Rattle.records.specs.declared.Record.{Record}
 use Rattle.records.specs.declared.Record.TheVariants.{Entry, Home, Way}
 use Rattle.records.specs.declared.Size.{Size}
@@ -56,9 +56,7 @@ file_text s rs = finished (size_text s) ++ flat_map (λ r. finished (record_text
 
 -- every number has at most four digits
 abbrev pub Small : List ℕ → Type 0
-Small [] = Unit {0}
-Small (n ∷ ns) = (n < 10000) × Small ns
+Small ns = AllByRecursion (λ n. n < 10000) ns
 
 abbrev pub AllSmall : List Record → Type 0
-AllSmall [] = Unit {0}
-AllSmall (r ∷ rs) = Small (numbers_of r) × AllSmall rs
+AllSmall rs = AllByRecursion (λ r. Small (numbers_of r)) rs

@@ -1,7 +1,11 @@
-//! Faults of a file's text.
+//! Faults of a file's text, and how the faults of all layers are told.
 
-ghost use Rattle.std.specs.Prelude.{◌≡◌};
-ghost use Rattle.records.specs.Faults.{parts_of, word_of};
+ghost use Rattle.std.specs.Prelude.{◌≡◌, Some};
+ghost use Rattle.records.specs.Faults.{parts_of, word_of, told};
+ghost use Rattle.records.specs.declared.faults.Parts.{Parts};
+
+use std::error::Error;
+use std::fmt;
 
 /// The layer that a fault comes from.
 #[derive(Clone, Copy, PartialEq, Eq, Debug)]
@@ -24,6 +28,74 @@ impl Layer {
     }
 }
 
+impl fmt::Display for Layer {
+    ghost output = { λ l. Some (word_of l) };
+
+    fn fmt<W: fmt::Write>(&self, f: &mut fmt::Formatter<W>) -> fmt::Result {
+        f.write_str(self.word())
+    }
+}
+
+/// The parts by which a fault is told. Lines and fields count from 1.
+#[derive(Clone, Copy, PartialEq, Eq, Debug)]
+pub struct Parts {
+    pub layer: Layer,
+    pub number: u16,
+    /// 0 where no line is meant.
+    pub line: usize,
+    /// 0 where the fault is the whole line's or no line's. Of a buffer that is too short it is the buffer's code.
+    pub field: usize,
+}
+
+impl fmt::Display for Parts {
+    ghost output = { λ p. Some (told p) };
+
+    fn fmt<W: fmt::Write>(&self, f: &mut fmt::Formatter<W>) -> fmt::Result {
+        let Parts {
+            layer,
+            number,
+            line,
+            field,
+        } = *self;
+        write!(f, "fault {layer} {number}, line {line}, field {field}")
+    }
+}
+
+/// A fault of any layer.
+pub trait Fault: Copy {
+    /// The parts by which it is told.
+    ghost parts: { Self → Parts };
+
+    fn parts(self) -> Parts
+        ensures { result ≡ parts self };
+
+    fn layer(self) -> Layer
+        ensures { result ≡ (parts self).layer }
+    {
+        self.parts().layer
+    }
+
+    fn number(self) -> u16
+        ensures { result ≡ (parts self).number }
+    {
+        self.parts().number
+    }
+
+    /// The line, from 1 on, or 0 where no line is meant.
+    fn line(self) -> usize
+        ensures { result ≡ (parts self).line }
+    {
+        self.parts().line
+    }
+
+    /// The field of a line, from 1 on, the code of a buffer, or 0.
+    fn field(self) -> usize
+        ensures { result ≡ (parts self).field }
+    {
+        self.parts().field
+    }
+}
+
 /// The first fault of a network file's text. Lines and fields count from 1.
 #[derive(Clone, Copy, PartialEq, Eq, Debug)]
 pub enum TextFault {
@@ -39,48 +111,32 @@ pub enum TextFault {
     SizeAgain { line: usize },
 }
 
-impl TextFault {
-    pub fn layer(self) -> Layer
-        ensures { result ≡ (parts_of self).layer }
-    {
-        Layer::Text
-    }
+impl Fault for TextFault {
+    ghost parts = { parts_of };
 
-    pub fn number(self) -> u16
-        ensures { result ≡ (parts_of self).number }
-    {
-        match self {
-            TextFault::NoSize => 10,
-            TextFault::UnknownLetter { .. } => 11,
-            TextFault::WrongShape { .. } => 12,
-            TextFault::NoNumber { .. } => 13,
-            TextFault::SizeAgain { .. } => 14,
-        }
-    }
-
-    /// The line, from 1 on.
-    pub fn line(self) -> usize
-        ensures { result ≡ (parts_of self).line }
-    {
-        match self {
-            TextFault::NoSize => 1,
-            TextFault::UnknownLetter { line } => line,
-            TextFault::WrongShape { line } => line,
-            TextFault::NoNumber { line, .. } => line,
-            TextFault::SizeAgain { line } => line,
-        }
-    }
-
-    /// The field, from 1 on, or 0 where the fault is the whole line's.
-    pub fn field(self) -> usize
-        ensures { result ≡ (parts_of self).field }
-    {
-        match self {
-            TextFault::NoSize => 1,
-            TextFault::UnknownLetter { .. } => 1,
-            TextFault::WrongShape { .. } => 0,
-            TextFault::NoNumber { field, .. } => field,
-            TextFault::SizeAgain { .. } => 1,
+    fn parts(self) -> Parts {
+        let (number, line, field) = match self {
+            TextFault::NoSize => (10, 1, 1),
+            TextFault::UnknownLetter { line } => (11, line, 1),
+            TextFault::WrongShape { line } => (12, line, 0),
+            TextFault::NoNumber { line, field } => (13, line, field),
+            TextFault::SizeAgain { line } => (14, line, 1),
+        };
+        Parts {
+            layer: Layer::Text,
+            number,
+            line,
+            field,
         }
     }
 }
+
+impl fmt::Display for TextFault {
+    ghost output = { λ f. Some (told (parts_of f)) };
+
+    fn fmt<W: fmt::Write>(&self, f: &mut fmt::Formatter<W>) -> fmt::Result {
+        self.parts().fmt(f)
+    }
+}
+
+impl Error for TextFault {}

@@ -1,10 +1,12 @@
 //! Writing the lines of a network file.
 
-ghost use Rattle.std.specs.Prelude.{◌≡◌, ℕ, ◌+◌, ◌<◌, ◌≤◌, length, decimal, Decides};
-ghost use Rattle.records.specs.Rendering.{finished, letter_n, line_text, numbers_text, size_numbers, size_text, letter_of, numbers_of, record_text, Small};
-ghost use Rattle.records.specs.Writes.{Wrote, WritesLine};
+ghost use Rattle.std.specs.Prelude.{◌≡◌, ℕ, ◌+◌, ◌<◌, ◌≤◌, [], ◌∷◌, ◌++◌, length, decimal, Decides, List};
+ghost use Rattle.arrayvec.specs.ArrayVec.{array_vec_len};
+ghost use Rattle.records.specs.Rendering.{finished, letter_n, line_text, numbers_text, size_numbers, letter_of, numbers_of, Small};
+ghost use Rattle.records.specs.Writes.{WritesLine};
 
 use crate::{Record, Size};
+use arrayvec::ArrayVec;
 
 /// Why a line was not written.
 #[derive(Clone, Copy, PartialEq, Eq, Debug)]
@@ -15,130 +17,136 @@ pub enum WriteFault {
     NoRoom,
 }
 
-// How many digits a number has.
-fn digits(n: u16) -> usize
-    ensures value { result ≡ length (decimal n) }
-    ensures bound { result ≤ 5 }
-{
-    if n < 10 { 1 } else { digits(n / 10) + 1 }
-}
-
-// Writes a number's digits from `at` on, and answers where they end.
-fn put_number(out: &mut [u8], at: usize, n: u16) -> usize
-    requires { at + length (decimal n) ≤ length out.old }
-    ensures { Wrote (decimal n) at out.old out.new result }
-{
-    if n < 10 {
-        out[at] = b'0' + n as u8;
-        return at + 1;
-    }
-    let end = put_number(out, at, n / 10);
-    out[end] = b'0' + (n % 10) as u8;
-    end + 1
-}
-
-// How many bytes a line of these numbers takes.
-fn line_len(numbers: &[u16]) -> usize
-    requires { length numbers.now ≤ 3 }
-    ensures value { (letter : ℕ) → result ≡ length (finished (line_text letter numbers.now)) }
-    ensures bound { result ≤ 20 }
-{
-    let mut len = 2;
-    for n in numbers {
-        len += 1 + digits(*n);
-    }
-    len
-}
+// The largest number of four digits.
+const MAX_NUMBER: u16 = 9_999;
 
 // Whether every number has at most four digits.
 fn all_small(numbers: &[u16]) -> bool
     ensures { Decides result (Small numbers.now) }
 {
-    for n in numbers {
-        if *n > 9999 {
-            return false;
-        }
-    }
-    true
+    numbers.iter().all(|n| *n <= MAX_NUMBER)
 }
 
-// Writes each number behind a tab, from `at` on, and answers where they end.
-fn put_numbers(out: &mut [u8], at: usize, numbers: &[u16]) -> usize
-    requires { at + length (numbers_text numbers.now) ≤ length out.old }
-    ensures { Wrote (numbers_text numbers.now) at out.old out.new result }
+// How many bytes a line has at most: a letter, three numbers of five digits, each behind a tab, and the byte 10.
+const MAX_LINE: usize = 20;
+
+/// The numbers of a line.
+pub type Numbers = ArrayVec<u16, 3>;
+
+// The bytes of a line.
+type Line = ArrayVec<u8, MAX_LINE>;
+
+// Puts a number behind a tab at a line's end.
+fn push_number(line: &mut Line, n: u16)
+    requires { array_vec_len line.old + 6 ≤ MAX_LINE }
+    ensures text { line.new.items ≡ line.old.items ++ 9 ∷ decimal n }
+    ensures short { array_vec_len line.new ≤ array_vec_len line.old + 6 }
 {
-    let mut end = at;
-    for n in numbers {
-        out[end] = b'\t';
-        end = put_number(out, end + 1, *n);
-    }
-    end
+    line.push(b'\t');
+    let mut digits = itoa::Buffer::new();
+    line.try_extend_from_slice(digits.format(n).as_bytes())
+        .unwrap();
 }
 
-// Writes a line from `at` on, and answers where it ends.
-fn write_line(letter: u8, numbers: &[u16], out: &mut [u8], at: usize) -> Result<usize, WriteFault>
+// The line of a letter and numbers, its byte 10 included.
+fn render(letter: u8, numbers: &[u16]) -> Line
     requires { length numbers.now ≤ 3 }
-    ensures { WritesLine letter numbers.now at out.old result out.new }
+    ensures { result.items ≡ finished (line_text letter numbers.now) }
 {
-    if !all_small(numbers) {
-        return Err(WriteFault::LargeNumber);
+    let mut line = ArrayVec::new();
+    line.push(letter);
+    for n in numbers {
+        push_number(&mut line, *n);
     }
-    let len = line_len(numbers);
-    if at > out.len() || out.len() - at < len {
-        return Err(WriteFault::NoRoom);
-    }
-    out[at] = letter;
-    let end = put_numbers(out, at + 1, numbers);
-    out[end] = b'\n';
-    Ok(end + 1)
+    line.push(b'\n');
+    line
 }
 
-impl Size {
-    /// Writes its line into `out` from `at` on, and answers where the line ends. A refusal writes nothing.
-    pub fn write(self, out: &mut [u8], at: usize) -> Result<usize, WriteFault>
-        ensures { WritesLine letter_n (size_numbers self) at out.old result out.new }
-    {
-        write_line(b'n', &[self.channels, self.places], out, at)
-    }
+/// What a line of a network file says: a letter, and numbers behind it.
+pub trait Statement: Copy {
+    ghost letter: { Self → ℕ };
+
+    ghost numbers: { Self → List ℕ };
+
+    fn letter(self) -> u8
+        ensures { result ≡ letter self };
+
+    fn numbers(self) -> Numbers
+        ensures { result.items ≡ numbers self };
 
     /// How many bytes its line takes, the byte 10 included.
-    pub fn text_len(self) -> usize
-        ensures value { result ≡ length (finished (size_text self)) }
+    fn text_len(self) -> usize
+        ensures value { result ≡ length (finished (line_text (letter self) (numbers self))) }
         ensures bound { result ≤ 20 }
     {
-        line_len(&[self.channels, self.places])
+        render(self.letter(), self.numbers().as_slice()).len()
+    }
+
+    /// Writes its line into `out` from `at` on, and answers where the line ends. A refusal writes nothing.
+    fn write(self, out: &mut [u8], at: usize) -> Result<usize, WriteFault>
+        ensures { WritesLine (letter self) (numbers self) at out.old result out.new }
+    {
+        let numbers = self.numbers();
+        if !all_small(numbers.as_slice()) {
+            return Err(WriteFault::LargeNumber);
+        }
+        let line = render(self.letter(), numbers.as_slice());
+        if at > out.len() || out.len() - at < line.len() {
+            return Err(WriteFault::NoRoom);
+        }
+        let end = at + line.len();
+        out[at..end].copy_from_slice(line.as_slice());
+        Ok(end)
     }
 }
 
-impl Record {
-    /// Writes its line into `out` from `at` on, and answers where the line ends. A refusal writes nothing.
-    pub fn write(self, out: &mut [u8], at: usize) -> Result<usize, WriteFault>
-        ensures { WritesLine (letter_of self) (numbers_of self) at out.old result out.new }
-    {
+impl Statement for Size {
+    ghost letter = { λ _. letter_n };
+
+    ghost numbers = { size_numbers };
+
+    fn letter(self) -> u8 {
+        b'n'
+    }
+
+    fn numbers(self) -> Numbers {
+        let mut numbers = ArrayVec::new();
+        numbers.push(self.channels);
+        numbers.push(self.places);
+        numbers
+    }
+}
+
+impl Statement for Record {
+    ghost letter = { letter_of };
+
+    ghost numbers = { numbers_of };
+
+    fn letter(self) -> u8 {
         match self {
-            Record::Entry { channel, place } => write_line(b'e', &[channel, place], out, at),
-            Record::Home { channel, place } => write_line(b'h', &[channel, place], out, at),
+            Record::Entry { .. } => b'e',
+            Record::Home { .. } => b'h',
+            Record::Way { .. } => b'w',
+        }
+    }
+
+    fn numbers(self) -> Numbers {
+        let mut numbers = ArrayVec::new();
+        match self {
+            Record::Entry { channel, place } | Record::Home { channel, place } => {
+                numbers.push(channel);
+                numbers.push(place);
+            }
             Record::Way {
                 channel,
                 place,
                 next,
-            } => write_line(b'w', &[channel, place, next], out, at),
+            } => {
+                numbers.push(channel);
+                numbers.push(place);
+                numbers.push(next);
+            }
         }
-    }
-
-    /// How many bytes its line takes, the byte 10 included.
-    pub fn text_len(self) -> usize
-        ensures value { result ≡ length (finished (record_text self)) }
-        ensures bound { result ≤ 20 }
-    {
-        match self {
-            Record::Entry { channel, place } => line_len(&[channel, place]),
-            Record::Home { channel, place } => line_len(&[channel, place]),
-            Record::Way {
-                channel,
-                place,
-                next,
-            } => line_len(&[channel, place, next]),
-        }
+        numbers
     }
 }

@@ -3,6 +3,7 @@
 #![tactic(auto)]
 
 use answers::answer;
+use files::judging::judge;
 use files::rewriting::rewrite;
 use netfiles::{read_network, write_network};
 use records::Record;
@@ -39,15 +40,31 @@ impl Tally {
         }
     }
 
+    // What is written anew is the file, and one byte less is refused.
+    fn with_written<E: Drop, W: Fn(&mut [u8]) -> Result<usize, E>>(
+        self,
+        heap: Global,
+        file: &[u8],
+        write: W,
+    ) -> Result<Tally, AllocError>
+        requires { W.IsAlwaysCallable write }
+    {
+        let mut room = vec![in heap; BLANK; file.len()]?;
+        let same = write(room.as_mut_slice()).is_ok_and(|end| end == file.len());
+        let mut short = vec![in heap; BLANK; file.len().saturating_sub(1)]?;
+        let refused = write(short.as_mut_slice()).is_err();
+        Ok(self.with(
+            same && room.as_slice() == file,
+            refused && short.iter().all(|byte| *byte == BLANK),
+        ))
+    }
+
     // The text of a file, written anew if it is in order.
     fn with_text(self, heap: Global, file: &[u8]) -> Result<Tally, AllocError> {
-        let mut room = vec![in heap; BLANK; file.len()]?;
-        let Ok(end) = rewrite(file, room.as_mut_slice()) else {
+        if judge(file).is_err() {
             return Ok(self);
-        };
-        let mut short = vec![in heap; BLANK; end.saturating_sub(1)]?;
-        let refused = rewrite(file, short.as_mut_slice()).is_err() && untouched(short.as_slice());
-        Ok(self.with(end == file.len() && room.as_slice() == file, refused))
+        }
+        self.with_written(heap, file, |out| rewrite(file, out))
     }
 
     // The network of a file, read and written if it is accepted.
@@ -61,21 +78,17 @@ impl Tally {
             return Ok(self);
         };
         list.truncate(read.records);
-        let mut room = vec![in heap; BLANK; file.len()]?;
-        let same = match write_network(heap, read.size, list.as_slice(), room.as_mut_slice()) {
-            Ok(end) => end == file.len() && room.as_slice() == file,
-            Err(_) => false,
-        };
-        let mut short = vec![in heap; BLANK; file.len().saturating_sub(1)]?;
-        let refused = write_network(heap, read.size, list.as_slice(), short.as_mut_slice()).is_err()
-            && untouched(short.as_slice());
-        Ok(self.with(same, refused))
+        self.with_written(heap, file, |out| {
+            write_network(heap, read.size, list.as_slice(), out)
+        })
     }
 
     fn print(self, rt: &HostRuntime, what: &str) -> anyhow::Result<()> {
-        let written = self.written;
-        let same = self.same;
-        let refused = self.refused;
+        let Tally {
+            written,
+            same,
+            refused,
+        } = self;
         println!(rt;
             "{written} {what} written anew: {same} the same, {refused} refused for want of a byte"
         )?;
@@ -83,21 +96,10 @@ impl Tally {
     }
 }
 
-fn untouched(bytes: &[u8]) -> bool {
-    for b in bytes {
-        if *b != BLANK {
-            return false;
-        }
-    }
-    true
-}
-
 fn run(rt: &HostRuntime) -> anyhow::Result<()> {
-    let mut args = env::args(rt)?;
-    let _ = args.next();
     let mut texts = Tally::NONE;
     let mut networks = Tally::NONE;
-    for name in args {
+    for name in env::args(rt)?.skip(1) {
         let file = fs::read(rt, name.as_str())?;
         let line = answer(rt.alloc(), file.as_slice())?;
         print!(rt; "{name}: {line}")?;

@@ -1,2 +1,2 @@
-mod Distances
-mod Routes
+pub mod Distances
+pub mod Routes

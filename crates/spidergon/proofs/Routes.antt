@@ -1,6 +1,6 @@
 -- Every route of a Spidergon arrives.
-use Rattle.std.proofs.Common.{◌≡◌, ℕ, zero, suc, ◌+◌, ◌*◌, ◌/◌, ◌%◌, ◌<◌, ◌≤◌, true, false, eqb, ◌⊎◌, List, [], ◌∷◌, length, get_or, sym, refl, ◌∙◌, subst, inl, inr, ⊎_elim, mod-lt, arith}
-use Rattle.std.proofs.lemmas.Bool.{ltb-true, lt-ltb, le-leb, lt-leb, eq-eqb, ne_eqb, cases_lt, cases_eq, and_parts}
+use Rattle.std.proofs.Common.{◌≡◌, ℕ, zero, suc, ◌+◌, ◌*◌, ◌<◌, ◌≤◌, true, false, eqb, ◌⊎◌, List, [], ◌∷◌, length, get_or, sym, refl, ◌∙◌, subst, inl, inr, ⊎_elim, mod-lt, arith}
+use Rattle.std.proofs.lemmas.Bool.{le-leb, lt-leb, ne_eqb, cases_lt, cases_eq}
 use Rattle.spidergon.specs.Arrival.{HomeWithin, arrived, moves, Arrives}
 use Rattle.spidergon.specs.Limits.{leads_below}
 use Rattle.spidergon.specs.Rings.{port, leads, relative, step, within, spidergon}
@@ -8,10 +8,7 @@ use Rattle.spidergon.proofs.Distances.{at_place, next, before, across}
 
 -- where port k of switch h leads
 port_leads : (n h k : ℕ) → k < 4 → leads n (4 * h + k) ≡ port n h k
-port_leads n h k l =
-    let a : (4 * h + k) / 4 ≡ h = omega arith in
-    let b : (4 * h + k) % 4 ≡ k = omega arith in
-    cc
+port_leads n h k l = grind arith
 
 -- a pair that there is
 record Pair (n c d : ℕ) : Type 0 where
@@ -24,7 +21,7 @@ abbrev far : ℕ → ℕ → ℕ → ℕ
 far n c d = relative n (leads n c) d
 
 there : {n c d : ℕ} → Pair n c d → within n c d ≡ true
-there {n} {c} {d} p = rw (lt-ltb c (16 * n) p.channel, lt-ltb d (4 * n) p.place) refl
+there p = grind arith
 
 switch : {n c d : ℕ} → Pair n c d → leads n c < 4 * n
 switch {n} {c} p = leads_below n c p.size p.channel
@@ -35,15 +32,13 @@ far_below p = let size = p.size in mod-lt _ (omega arith)
 -- a pair is home where its place lies 0 ahead
 arrived_at : {n c d m : ℕ} → Pair n c d → far n c d ≡ 0 → HomeWithin (spidergon n) m c d
 arrived_at {n} {c} {d} {m} p z =
-    let e : eqb (leads n c) d ≡ true = at_place n (leads n c) d (switch p) p.place ∙ eq-eqb _ _ z in
-    arrived (rw (there p, e) refl)
+    let e = at_place n (leads n c) d (switch p) p.place in
+    let t = there p in
+    arrived (grind arith)
 
 -- a pair of one way has no other
 only : (ways : List ℕ) (w k h : ℕ) → ways ≡ w ∷ [] → k < length ways → h ≡ get_or ways k 0 → w ≡ h
-only ways w k h e l g =
-    let less : k < length (w ∷ []) = subst (λ (ws : List ℕ). k < length ws) e l in
-    let z : k ≡ 0 = omega arith in
-    cc
+only ways w k h e l g = grind arith
 
 -- elsewhere a packet moves on by the one way
 moved : {n c d m : ℕ} → Pair n c d → 0 < far n c d → HomeWithin (spidergon n) m (step n (leads n c) (far n c d)) d → HomeWithin (spidergon n) (suc m) c d
@@ -84,7 +79,7 @@ backward (suc m) n c d p (inr b) =
     let size : 1 ≤ n = p.size in
     let some : 0 < far n c d = omega arith in
     let e = port_leads n (leads n c) 2 (omega arith) in
-    let f : (far n (4 * leads n c + 2) d ≡ far n c d + 1) ⊎ (far n (4 * leads n c + 2) d ≡ 0) = rw e (before n (leads n c) d (switch p) p.place some) in
+    let f : (far n (4 * leads n c + 2) d ≡ far n c d + 1) ⊎ (far n (4 * leads n c + 2) d ≡ 0) = rw e (before n (leads n c) d (switch p) p.place) in
     let on : (far n (4 * leads n c + 2) d ≡ 0) ⊎ Behind n m (far n (4 * leads n c + 2) d) = ⊎_elim (λ g. inr (record { quarter = omega arith; close = omega arith })) inl f in
     moved p some (rw (lt-leb (far n c d) n (omega arith), le-leb _ _ b.quarter) (backward m n (4 * leads n c + 2) d (past 2 p (omega arith)) on))
 
@@ -123,6 +118,4 @@ within_size (suc m) c d p =
 
 -- the law: an entry is a pair that there is
 pub arrives : (n : ℕ) → 1 ≤ n → Arrives n
-arrives n size c d e =
-    let inside = and_parts _ _ (and_parts (within n c d) _ e).0 in
-    within_size n c d (record { size = size; channel = ltb-true _ _ inside.0; place = ltb-true _ _ inside.1 })
+arrives n size c d e = within_size n c d (record { size = size; channel = grind arith; place = grind arith })

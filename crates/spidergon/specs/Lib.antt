@@ -1,4 +1,5 @@
 pub mod Arrival
 pub mod Building
 pub mod Limits
+pub mod Ports
 pub mod Rings

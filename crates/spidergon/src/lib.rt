@@ -10,9 +10,12 @@ ghost use Rattle.spidergon.specs.Rings.{leads, relative, step, within, spidergon
 
 use networks::Network;
 use networks::faults::StudyFault;
+use networks::pairs::Pair;
 
+mod ports;
 mod ring;
 
+use crate::ports::Port;
 pub use crate::ring::Spidergon;
 
 // The largest size: a network has at most 1024 channels and 256 places.
@@ -21,20 +24,21 @@ const MAX_SIZE: u16 = 64;
 impl Spidergon {
     /// The Spidergon of 4 × `size` switches, for a size from 1 to 64. Every route through it is home within `size` moves past
     /// its entry.
+    #[tactic(auto, using(crate::proofs::Routes::arrives))]
     pub fn new(size: u16) -> Result<Spidergon, StudyFault>
         ensures { Builds size result }
     {
-        if size == 0 || size > MAX_SIZE {
+        if !(1..=MAX_SIZE).contains(&size) {
             return Err(StudyFault::SpidergonSize);
         }
         Ok(Spidergon { size })
     }
 
-    // Whether it has the channel and the place.
-    fn within(self, channel: u16, place: u16) -> bool
-        ensures { result ≡ within self.size channel place }
+    // Whether it has the pair.
+    fn within(self, pair: Pair) -> bool
+        ensures { result ≡ within self.size pair.channel pair.place }
     {
-        channel < 16 * self.size && place < 4 * self.size
+        pair.channel < 16 * self.size && pair.place < 4 * self.size
     }
 
     // The switch to which a channel leads.
@@ -45,18 +49,20 @@ impl Spidergon {
     {
         let switches = 4 * self.size;
         let switch = channel / 4;
-        match channel % 4 {
-            0 => switch,
-            1 => (switch + 1) % switches,
-            2 => (switch + switches - 1) % switches,
-            _ => (switch + 2 * self.size) % switches,
+        match Port::of(channel) {
+            Port::Local => switch,
+            Port::Next => (switch + 1) % switches,
+            Port::Before => (switch + switches - 1) % switches,
+            Port::Across => (switch + 2 * self.size) % switches,
         }
     }
 
     // How far a place lies ahead of a switch.
+    #[tactic(auto, using(crate::proofs::Distances::at_place))]
     fn relative(self, switch: u16, place: u16) -> u16
         requires { (switch < 4 * self.size) × (place < 4 * self.size) }
-        ensures { result ≡ relative self.size switch place }
+        ensures ahead { result ≡ relative self.size switch place }
+        ensures none_at_place { nat_eq switch place ≡ nat_eq result 0 }
     {
         let switches = 4 * self.size;
         (place + switches - switch) % switches
@@ -69,9 +75,9 @@ impl Spidergon {
     {
         match ahead {
             0 => None,
-            r if r <= self.size => Some(4 * switch + 1),
-            r if r >= 3 * self.size => Some(4 * switch + 2),
-            _ => Some(4 * switch + 3),
+            r if r <= self.size => Some(Port::Next.channel(switch)),
+            r if r >= 3 * self.size => Some(Port::Before.channel(switch)),
+            _ => Some(Port::Across.channel(switch)),
         }
     }
 }
@@ -89,27 +95,23 @@ impl Network for Spidergon {
         4 * self.size
     }
 
-    fn entry(&self, channel: u16, place: u16) -> bool {
-        self.within(channel, place) && channel % 4 == 0
+    fn entry(&self, pair: Pair) -> bool {
+        self.within(pair) && Port::of(pair.channel) == Port::Local
     }
 
-    fn home(&self, channel: u16, place: u16) -> bool {
-        self.within(channel, place) && self.leads(channel) == place
+    fn home(&self, pair: Pair) -> bool {
+        self.within(pair) && self.leads(pair.channel) == pair.place
     }
 
-    fn way_count(&self, channel: u16, place: u16) -> usize {
-        if self.within(channel, place) && self.leads(channel) != place {
-            1
-        } else {
-            0
-        }
+    fn way_count(&self, pair: Pair) -> usize {
+        usize::from(self.within(pair) && self.leads(pair.channel) != pair.place)
     }
 
-    fn way(&self, channel: u16, place: u16, position: usize) -> Option<u16> {
-        if position > 0 || !self.within(channel, place) {
+    fn way(&self, pair: Pair, position: usize) -> Option<u16> {
+        if position > 0 || !self.within(pair) {
             return None;
         }
-        let switch = self.leads(channel);
-        self.step(switch, self.relative(switch, place))
+        let switch = self.leads(pair.channel);
+        self.step(switch, self.relative(switch, pair.place))
     }
 }

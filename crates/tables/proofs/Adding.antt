@@ -1,15 +1,13 @@
 -- The network of the cells, after one cell has changed.
-use Rattle.std.proofs.Common.{◌≡◌, ℕ, ◌+◌, ◌*◌, ◌/◌, ◌%◌, ◌<◌, Bool, true, false, cond, ◌&&◌, ◌||◌, eqb, ltb, ◌≢◌, List, [], ◌∷◌, ◌++◌, length, set, vec_items, sym, refl, ap, ◌∙◌, subst}
+use Rattle.std.proofs.Common.{◌≡◌, ℕ, ◌+◌, ◌*◌, ◌/◌, ◌%◌, ◌<◌, Bool, true, false, cond, ◌&&◌, ◌||◌, eqb, ltb, ◌≢◌, List, [], ◌∷◌, ◌++◌, length, set, sym, refl, ap, ◌∙◌, subst}
 use Rattle.std.proofs.lemmas.Nat.{div-mul-add, mod-mul-add}
 use Rattle.std.proofs.lemmas.List.{append-nil, get_or-set_same, get_or-set_other}
 use Rattle.std.proofs.lemmas.Bool.{ltb-true, lt-ltb, eq-eqb, and_from, and_parts, cond-true, cond-false}
 use Rattle.networks.specs.Nets.{Net}
 use Rattle.records.specs.declared.Record.TheVariants.{Entry, Home, Way}
 use Rattle.tables.specs.declared.cell.Cell.{Cell}
-use Rattle.tables.specs.declared.table.Table.{Table}
-use Rattle.tables.specs.Cells.{inside, cell_of, look, net_of, ways_of, as_entry, as_home, with_way}
+use Rattle.tables.specs.Cells.{inside, cell_of, look, net_of, as_entry, as_home, with_way}
 use Rattle.tables.specs.Drawn.{adding}
-use Rattle.tables.specs.Meaning.{meaning_of}
 use Rattle.tables.proofs.Pairs.{Same, here, elsewhere, same_pair, or_none}
 
 -- networks that answer alike are equal
@@ -67,17 +65,13 @@ module _ (channels places : ℕ) (cells : List Cell) (a b : ℕ) (in-channels : 
   more_test says x is c d = grown says false ◌||◌ false true or_none x (is ∙ or_all _) c d ∙ ap (λ t. look says false channels places cells c d || t) (cond_test (eqb a c && eqb b d))
 
   pub entry_added : net_of channels places (set cells (a * places + b) (as_entry (cell_of places cells a b))) ≡ adding (net_of channels places cells) (Entry a b)
-  entry_added = net_ext refl refl (more_test (λ x. x.entry) _ refl) (same_test (λ x. x.home) _ refl) (same ways_of [] ◌++◌ [] append-nil _ refl)
+  entry_added = net_ext refl refl (more_test (λ x. x.entry) _ refl) (same_test (λ x. x.home) _ refl) (same (λ x. x.ways) [] ◌++◌ [] append-nil _ refl)
 
   pub home_added : net_of channels places (set cells (a * places + b) (as_home (cell_of places cells a b))) ≡ adding (net_of channels places cells) (Home a b)
-  home_added = net_ext refl refl (same_test (λ x. x.entry) _ refl) (more_test (λ x. x.home) _ refl) (same ways_of [] ◌++◌ [] append-nil _ refl)
+  home_added = net_ext refl refl (same_test (λ x. x.entry) _ refl) (more_test (λ x. x.home) _ refl) (same (λ x. x.ways) [] ◌++◌ [] append-nil _ refl)
 
-  pub way_added : (h : ℕ) → ways_of (with_way (cell_of places cells a b) h) ≡ ways_of (cell_of places cells a b) ++ (h ∷ []) → net_of channels places (set cells (a * places + b) (with_way (cell_of places cells a b) h)) ≡ adding (net_of channels places cells) (Way a b h)
-  way_added h is = net_ext refl refl (same_test (λ x. x.entry) _ refl) (same_test (λ x. x.home) _ refl) (grown ways_of [] ◌++◌ [] (h ∷ []) append-nil _ is)
+  pub way_added : (h : ℕ) → net_of channels places (set cells (a * places + b) (with_way (cell_of places cells a b) h)) ≡ adding (net_of channels places cells) (Way a b h)
+  way_added h = net_ext refl refl (same_test (λ x. x.entry) _ refl) (same_test (λ x. x.home) _ refl) (grown (λ x. x.ways) [] ◌++◌ [] (h ∷ []) append-nil _ refl)
 
-  pub ways_here : (net_of channels places cells).ways a b ≡ ways_of (cell_of places cells a b)
-  ways_here = look_here ways_of [] cells
-
--- the meaning of a table of which one cell was replaced
-pub replaced : (t u : Table) (xs : List Cell) → u.channels ≡ t.channels → u.places ≡ t.places → vec_items u.cells ≡ xs → meaning_of u ≡ net_of t.channels t.places xs
-replaced t u xs p q e = λ i. net_of (p i) (q i) (e i)
+  pub ways_here : (net_of channels places cells).ways a b ≡ (cell_of places cells a b).ways
+  ways_here = look_here (λ x. x.ways) [] cells

@@ -1,5 +1,5 @@
 -- Making a table record by record.
-use Rattle.std.proofs.Common.{◌≡◌, ℕ, ◌+◌, ◌*◌, ◌<◌, ◌≤◌, Bool, true, false, cond, ◌&&◌, ◌||◌, eqb, ◌⊎◌, List, [], ◌∷◌, ◌++◌, length, get_or, take, drop, replicate, IfOk, Ok, Err, Result, sym, refl, ap, ◌∙◌, subst, inl, inr, ⊎_elim, arith}
+use Rattle.std.proofs.Common.{◌≡◌, ℕ, ◌+◌, ◌*◌, ◌<◌, ◌≤◌, Bool, true, false, cond, ◌&&◌, ◌||◌, eqb, ◌⊎◌, List, [], ◌∷◌, ◌++◌, length, get_or, take, drop, replicate, sym, refl, ap, ◌∙◌, subst, inl, inr, ⊎_elim, arith}
 use Rattle.std.proofs.ByRecursion.{All-push}
 use Rattle.std.proofs.lemmas.List.{append-nil, append_assoc, length-append, get_or-replicate, get_or_past, length-replicate, length-take-le, take_more, take_all, take-append-drop, drop_more}
 use Rattle.std.proofs.lemmas.Bool.{cases_lt, cond_both}
@@ -12,17 +12,12 @@ use Rattle.networks.specs.declared.faults.TableFault.TheVariants.{TooManyRecords
 use Rattle.networks.specs.Nets.{Net}
 use Rattle.tables.specs.declared.cell.Cell.{Cell}
 use Rattle.tables.specs.declared.table.Table.{Table}
-use Rattle.tables.specs.Cells.{blank, inside, look, net_of, ways_of}
+use Rattle.tables.specs.Cells.{blank, Sound, inside, look, net_of}
 use Rattle.tables.specs.Drawn.{drawn, adding, some, entry_by, home_by, way_by}
 use Rattle.tables.specs.Makes.{most, SizeFits, Takes, Within, Full, Fit, Misfit, Acceptable, RecordsFault, first, many}
 use Rattle.tables.specs.Meaning.{meaning_of}
 use Rattle.tables.proofs.Adding.{net_ext}
 use Rattle.tables.proofs.Pairs.{Same, here, elsewhere, same_pair, or_none}
-
--- two facts of what was made, from two others
-pub made_both : {X Y : Type 0} (r : Result X Y) {P Q P' Q' : X → Type 0} → IfOk r P → IfOk r Q → ((x : X) → P x → P' x) → ((x : X) → Q x → Q' x) → IfOk r (λ x. P' x × Q' x)
-made_both (Ok x) p q f g = (f x p, g x q)
-made_both (Err y) p q f g = tt
 
 -- cells of which nothing is said
 pub blank_at : (cells : List Cell) (n : ℕ) → cells ≡ replicate n blank → (k : ℕ) → get_or cells k blank ≡ blank
@@ -32,14 +27,8 @@ blank_at cells n e k = rw e (go (cases_lt k n))
     go (inl lt) = get_or-replicate n k blank blank lt
     go (inr le) = get_or_past (replicate n blank) k blank (rw length-replicate le)
 
-pub blank_room : {x : Cell} → x ≡ blank → length x.ways ≡ 8
-blank_room e = ap (λ x. length x.ways) e
-
-pub blank_few : {x : Cell} → x ≡ blank → x.count ≤ 8
-blank_few e = let n = ap (λ x. x.count) e in omega arith
-
-pub blank_inside : {x : Cell} {j channels : ℕ} → x ≡ blank → j < x.count → get_or x.ways j 0 < channels
-blank_inside e l = let n = ap (λ x. x.count) e in absurd (omega arith)
+pub blank_sound : {x : Cell} (channels : ℕ) → x ≡ blank → Sound channels x
+blank_sound channels e = subst (Sound channels) (sym e) (record { few = omega arith; inside = λ k d l. absurd (omega arith) })
 
 look_blank : {X : Type 0} (says : Cell → X) (z : X) (channels places : ℕ) (cells : List Cell) → ((k : ℕ) → get_or cells k blank ≡ blank) → says blank ≡ z → (c d : ℕ) → look says z channels places cells c d ≡ z
 look_blank says z channels places cells all e c d = go (inside channels places c d)
@@ -49,7 +38,7 @@ look_blank says z channels places cells all e c d = go (inside channels places c
     go false = refl
 
 pub blank_net : (s : Size) (cells : List Cell) → ((k : ℕ) → get_or cells k blank ≡ blank) → net_of s.channels s.places cells ≡ drawn s []
-blank_net s cells all = net_ext refl refl (look_blank (λ x. x.entry) false _ _ cells all refl) (look_blank (λ x. x.home) false _ _ cells all refl) (look_blank ways_of [] _ _ cells all refl)
+blank_net s cells all = net_ext refl refl (look_blank (λ x. x.entry) false _ _ cells all refl) (look_blank (λ x. x.home) false _ _ cells all refl) (look_blank (λ x. x.ways) [] _ _ cells all refl)
 
 -- one record more at the end
 or_assoc : (x y z : Bool) → ((x || y) || z) ≡ (x || (y || z))
@@ -93,11 +82,7 @@ fit_push s rs r f t =
       few = λ c d. subst (λ (n : Net). length (n.ways c d) ≤ 8) (sym (drawn_push s rs r)) (few_more (drawn s rs) r f.few t.room c d);
     }
 
--- the size of a table
-abbrev pub size_of : Table → Size
-size_of t = record { channels = t.channels; places = t.places }
-
-pub size_is : (t : Table) (s : Size) (rs : List Record) → meaning_of t ≡ drawn s rs → size_of t ≡ s
+pub size_is : (t : Table) (s : Size) (rs : List Record) → meaning_of t ≡ drawn s rs → t.size ≡ s
 size_is t s rs e = λ i. record { channels = (e i).channels; places = (e i).places }
 
 -- The records so far fit and are in the table.
@@ -109,7 +94,7 @@ pub record Upto (s : Size) (rs : List Record) (t : Table) : Type 0 where
 pub fit_none : (s : Size) → Fit s []
 fit_none s = record { within = tt; few = λ c d. omega arith }
 
-pub begins : (s : Size) (t : Table) → SizeFits s → meaning_of t ≡ drawn s [] → Upto (size_of t) [] t
+pub begins : (s : Size) (t : Table) → SizeFits s → meaning_of t ≡ drawn s [] → Upto t.size [] t
 begins s t fits e = subst (λ (z : Size). Upto z [] t) (sym (size_is t s [] e)) (record { size = fits; fit = fit_none s; meaning = e })
 
 pub goes_on : (s : Size) (rs : List Record) (r : Record) (t u : Table) → Upto s rs t → Takes (meaning_of t) r → meaning_of u ≡ adding (meaning_of t) r → Upto s (rs ++ (r ∷ [])) u
@@ -122,12 +107,12 @@ goes_on s rs r t u up takes e =
     }
 
 -- the records of a list, one after the other
-module _ (s : Size) (xs : List Record) (t₀ t : Table) (is : meaning_of t₀ ≡ drawn s []) (i : ℕ) (up : Upto (size_of t₀) (take i xs) t) where
+module _ (s : Size) (xs : List Record) (t₀ t : Table) (is : meaning_of t₀ ≡ drawn s []) (i : ℕ) (up : Upto t₀.size (take i xs) t) where
   so_far : Upto s (take i xs) t
   so_far = subst (λ (z : Size). Upto z (take i xs) t) (size_is t₀ s [] is) up
 
-  pub one_more : (u : Table) (d : Record) → i < length xs → Takes (meaning_of t) (get_or xs i d) → meaning_of u ≡ adding (meaning_of t) (get_or xs i d) → Upto (size_of t₀) (take (i + 1) xs) u
-  one_more u d lt takes e = subst (λ (rs : List Record). Upto (size_of t₀) rs u) (sym (take_more xs i d lt)) (goes_on (size_of t₀) (take i xs) (get_or xs i d) t u up takes e)
+  pub one_more : (u : Table) (d : Record) → i < length xs → Takes (meaning_of t) (get_or xs i d) → meaning_of u ≡ adding (meaning_of t) (get_or xs i d) → Upto t₀.size (take (i + 1) xs) u
+  one_more u d lt takes e = subst (λ (rs : List Record). Upto t₀.size rs u) (sym (take_more xs i d lt)) (goes_on t₀.size (take i xs) (get_or xs i d) t u up takes e)
 
   pub one_refused : (d : Record) (f : TableFault) → i < length xs → Misfit (meaning_of t) (i + 2) (get_or xs i d) f → RecordsFault s xs f
   one_refused d f lt m =

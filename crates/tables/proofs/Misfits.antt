@@ -5,13 +5,8 @@ use Rattle.records.specs.declared.Record.TheVariants.{Entry, Home, Way}
 use Rattle.networks.specs.declared.faults.TableFault.{TableFault}
 use Rattle.networks.specs.declared.faults.TableFault.TheVariants.{OutOfRange}
 use Rattle.networks.specs.Nets.{Net}
+use Rattle.tables.specs.Drawn.{pair_of}
 use Rattle.tables.specs.Makes.{Below, Within, FirstOutside, Misfit, outside, Takes}
-
--- the pair of a record
-abbrev pub AtPair : Record → ℕ → ℕ → Type 0
-AtPair (Entry a b) c d = (a ≡ c) × (b ≡ d)
-AtPair (Home a b) c d = (a ≡ c) × (b ≡ d)
-AtPair (Way a b h) c d = (a ≡ c) × (b ≡ d)
 
 -- the first numbers of the lists are below one another
 two : (a b c d : ℕ) → a < c → b < d → (k : ℕ) → k < 2 → get_or (a ∷ (b ∷ [])) k 0 < get_or (c ∷ (d ∷ [])) k 0
@@ -34,25 +29,25 @@ first_two P h l (suc (suc k)) lt = absurd (omega arith)
 abbrev pub Misplaced : Net → ℕ → ℕ → ℕ → TableFault → Type 0
 Misplaced n line c d f = ((f ≡ OutOfRange line 2) × (n.channels ≤ c)) ⊎ ((f ≡ OutOfRange line 3) × (c < n.channels) × (n.places ≤ d))
 
-module _ (n : Net) (line c d : ℕ) where
-  first_field : (r : Record) → AtPair r c d → n.channels ≤ c → FirstOutside n r 2
-  first_field (Entry a b) p h = record { at = 0; field = refl; there = omega arith; outside = λ l. omega (arith, p.0); before = λ k l. absurd (omega arith) }
-  first_field (Home a b) p h = record { at = 0; field = refl; there = omega arith; outside = λ l. omega (arith, p.0); before = λ k l. absurd (omega arith) }
-  first_field (Way a b e) p h = record { at = 0; field = refl; there = omega arith; outside = λ l. omega (arith, p.0); before = λ k l. absurd (omega arith) }
+first_field : (n : Net) (r : Record) → n.channels ≤ (pair_of r).channel → FirstOutside n r 2
+first_field n (Entry a b) h = record { at = 0; field = refl; there = omega arith; outside = λ l. omega arith; before = λ k l. absurd (omega arith) }
+first_field n (Home a b) h = record { at = 0; field = refl; there = omega arith; outside = λ l. omega arith; before = λ k l. absurd (omega arith) }
+first_field n (Way a b e) h = record { at = 0; field = refl; there = omega arith; outside = λ l. omega arith; before = λ k l. absurd (omega arith) }
 
-  only_first : (P : ℕ → Type 0) → P 0 → (k : ℕ) → k < 1 → P k
-  only_first P h zero l = h
-  only_first P h (suc k) l = absurd (omega arith)
+only_first : (P : ℕ → Type 0) → P 0 → (k : ℕ) → k < 1 → P k
+only_first P h zero l = h
+only_first P h (suc k) l = absurd (omega arith)
 
-  second_field : (r : Record) → AtPair r c d → c < n.channels → n.places ≤ d → FirstOutside n r 3
-  second_field (Entry a b) p h g = record { at = 1; field = refl; there = omega arith; outside = λ l. omega (arith, p.1); before = only_first (Below n (Entry a b)) (omega (arith, p.0)) }
-  second_field (Home a b) p h g = record { at = 1; field = refl; there = omega arith; outside = λ l. omega (arith, p.1); before = only_first (Below n (Home a b)) (omega (arith, p.0)) }
-  second_field (Way a b e) p h g = record { at = 1; field = refl; there = omega arith; outside = λ l. omega (arith, p.1); before = only_first (Below n (Way a b e)) (omega (arith, p.0)) }
+second_field : (n : Net) (r : Record) → (pair_of r).channel < n.channels → n.places ≤ (pair_of r).place → FirstOutside n r 3
+second_field n (Entry a b) h g = record { at = 1; field = refl; there = omega arith; outside = λ l. omega arith; before = only_first (Below n (Entry a b)) h }
+second_field n (Home a b) h g = record { at = 1; field = refl; there = omega arith; outside = λ l. omega arith; before = only_first (Below n (Home a b)) h }
+second_field n (Way a b e) h g = record { at = 1; field = refl; there = omega arith; outside = λ l. omega arith; before = only_first (Below n (Way a b e)) h }
 
-  pub misplaced : (r : Record) (f : TableFault) → AtPair r c d → Misplaced n line c d f → Misfit n line r f
-  misplaced r f p (inl x) = outside 2 (first_field r p x.1) x.0
-  misplaced r f p (inr x) = outside 3 (second_field r p x.1 x.2) x.0
+pub misplaced : (n : Net) (line : ℕ) (r : Record) (f : TableFault) → Misplaced n line (pair_of r).channel (pair_of r).place f → Misfit n line r f
+misplaced n line r f (inl x) = outside 2 (first_field n r x.1) x.0
+misplaced n line r f (inr x) = outside 3 (second_field n r x.1 x.2) x.0
 
+module _ (n : Net) (c d : ℕ) where
   module _ (in-channels : c < n.channels) (in-places : d < n.places) where
     pub takes_entry : Takes n (Entry c d)
     takes_entry = record { within = two c d n.channels n.places in-channels in-places; room = λ x. x }
@@ -60,7 +55,7 @@ module _ (n : Net) (line c d : ℕ) where
     pub takes_home : Takes n (Home c d)
     takes_home = record { within = two c d n.channels n.places in-channels in-places; room = λ x. x }
 
-    pub within_way : (h : ℕ) → h < n.channels → Within n (Way c d h)
+    within_way : (h : ℕ) → h < n.channels → Within n (Way c d h)
     within_way h l = three c d h n.channels n.places n.channels in-channels in-places l
 
     pub takes_way : (h : ℕ) → h < n.channels → length (n.ways c d) < 8 → Takes n (Way c d h)

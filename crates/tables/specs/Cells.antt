@@ -1,30 +1,25 @@
 -- The cells of a table, one for each pair.
-use Rattle.std.specs.Prelude.{◌≡◌, ℕ, ◌+◌, ◌*◌, ◌<◌, ◌≤◌, Bool, true, false, cond, ◌&&◌, List, [], length, take, replicate, nat_lt, slice_index, slice_index_or, slice_set}
+use Rattle.std.specs.Prelude.{ℕ, ◌+◌, ◌*◌, ◌<◌, ◌≤◌, Bool, true, false, cond, ◌&&◌, List, [], ◌∷◌, ◌++◌, length, All, nat_lt, slice_index_or}
 use Rattle.networks.specs.Nets.{Net, most_ways}
 use Rattle.tables.specs.declared.cell.Cell.{Cell}
 
 abbrev pub blank : Cell
-blank = record { entry = false; home = false; count = 0; ways = replicate most_ways 0 }
-
--- the ways that a cell holds
-abbrev pub ways_of : Cell → List ℕ
-ways_of x = take x.count x.ways
+blank = record { entry = false; home = false; ways = [] }
 
 -- the cell with one way more
 abbrev pub with_way : Cell → ℕ → Cell
-with_way x h = record { entry = x.entry; home = x.home; count = x.count + 1; ways = slice_set x.ways x.count h }
+with_way x h = record { entry = x.entry; home = x.home; ways = x.ways ++ (h ∷ []) }
 
 abbrev pub as_entry : Cell → Cell
-as_entry x = record { entry = true; home = x.home; count = x.count; ways = x.ways }
+as_entry x = record { entry = true; home = x.home; ways = x.ways }
 
 abbrev pub as_home : Cell → Cell
-as_home x = record { entry = x.entry; home = true; count = x.count; ways = x.ways }
+as_home x = record { entry = x.entry; home = true; ways = x.ways }
 
--- Room for all the ways that there may be, and at most as many, each below the number of channels.
+-- At most as many ways as there may be, each below the number of channels.
 pub record Sound (channels : ℕ) (x : Cell) : Type 0 where
-  pub room : length x.ways ≡ most_ways
-  pub few : x.count ≤ most_ways
-  pub inside : (k : ℕ) → k < x.count → slice_index x.ways k < channels
+  pub few : length x.ways ≤ most_ways
+  pub inside : All (λ h. h < channels) x.ways
 
 abbrev pub inside : ℕ → ℕ → ℕ → ℕ → Bool
 inside channels places c d = nat_lt c channels && nat_lt d places
@@ -44,5 +39,5 @@ net_of channels places cells =
       places = places;
       entry = look (λ x. x.entry) false channels places cells;
       home = look (λ x. x.home) false channels places cells;
-      ways = look ways_of [] channels places cells;
+      ways = look (λ x. x.ways) [] channels places cells;
     }

@@ -5,6 +5,13 @@ use Rattle.records.specs.declared.Record.{Record}
 use Rattle.records.specs.declared.Record.TheVariants.{Entry, Home, Way}
 use Rattle.records.specs.declared.Size.{Size}
 use Rattle.networks.specs.Nets.{Net}
+use Rattle.networks.specs.declared.pairs.Pair.{Pair}
+
+-- the pair that the record speaks of
+abbrev pub pair_of : Record → Pair
+pair_of (Entry c d) = record { channel = c; place = d }
+pair_of (Home c d) = record { channel = c; place = d }
+pair_of (Way c d h) = record { channel = c; place = d }
 
 -- the record makes the pair (c, d) an entry
 abbrev pub entry_by : Record → ℕ → ℕ → Bool

@@ -1,4 +1,5 @@
 pub mod Cells
 pub mod Drawn
+pub mod Filled
 pub mod Makes
 pub mod Meaning

@@ -1,5 +1,5 @@
 -- Which records make a table, and the faults of those that do not.
-use Rattle.std.specs.Prelude.{◌≡◌, ℕ, ◌+◌, ◌<◌, ◌≤◌, ◌⊎◌, List, [], ◌∷◌, ◌++◌, length, Ok, Err, Result, slice_index}
+use Rattle.std.specs.Prelude.{◌≡◌, ℕ, ◌+◌, ◌<◌, ◌≤◌, min, ◌⊎◌, List, [], ◌∷◌, ◌++◌, length, Ok, Err, Result, slice_index}
 use Rattle.std.specs.List.{AllByRecursion}
 use Rattle.records.specs.declared.Record.{Record}
 use Rattle.records.specs.declared.Record.TheVariants.{Entry, Home, Way}
@@ -15,6 +15,10 @@ use Rattle.tables.specs.Meaning.{meaning_of}
 -- how many records a table takes
 abbrev pub most : ℕ
 most = 65535
+
+-- how many records go into a list with room for so many
+abbrev pub limit : ℕ → ℕ
+limit room = min room most
 
 -- The size is one of a network.
 pub record SizeFits (s : Size) : Type 0 where

@@ -3,10 +3,10 @@
 #![tactic(auto)]
 
 mod cell;
+mod cell_ways;
 mod making;
-mod marks;
 mod questions;
 mod table;
 
-pub use crate::making::MAX_RECORDS;
+pub use crate::making::{MAX_RECORDS, check_count};
 pub use crate::table::Table;

@@ -1,15 +1,12 @@
 -- Pairs inside a network and their positions.
-use Rattle.std.proofs.Common.{◌≡◌, ℕ, ◌/◌, ◌%◌, ◌<◌, ◌≤◌, true, arith}
+use Rattle.std.proofs.Common.{◌≡◌, ℕ, ◌/◌, ◌%◌, ◌<◌, true, arith}
 use native.Mathlib.Decide.{dec_lt}
-use Rattle.std.proofs.lemmas.Nat.{div-mul-add, mod-mul-add, mul-add-lt, mul-le, div_below, mod_below}
+use Rattle.std.proofs.lemmas.Nat.{div-mul-add, mod-mul-add, mul-add-lt, div_below, mod_below}
 use Rattle.std.proofs.lemmas.Bool.{both_ways}
 use Rattle.networks.specs.Allowed.{Allowed, enters, moves, pairs, position}
 use Rattle.networks.specs.Nets.{Net, Inside, Conditions}
 
 module _ (n : Net) (ok : Conditions n) where
-  pub few_pairs : pairs n ≤ 262144
-  few_pairs = mul-le n.channels n.places 1024 256 ok.few_channels ok.few_places
-
   -- an entry lies inside the network, and so does each allowed pair
   pub entry_inside : (c d : ℕ) → n.entry c d ≡ true → Inside n c d
   entry_inside c d e = go (dec_lt c n.channels) (dec_lt d n.places)

@@ -1,36 +1,58 @@
 -- The table and the queue while a network is traced. A pair is marked if its byte is 1.
-use Rattle.std.specs.Prelude.{◌≡◌, ℕ, ◌/◌, ◌%◌, ◌<◌, ◌≤◌, true, false, ◌⊎◌, List, length, take, count_by, nat_eq, slice_index}
+use Rattle.std.specs.Prelude.{◌≡◌, ℕ, ◌+◌, ◌/◌, ◌%◌, ◌^◌, ◌<◌, ◌≤◌, true, false, ◌⊎◌, List, Option, Some, None, All, length, count_by, nat_eq, slice_index}
 use Rattle.networks.specs.Allowed.{Allowed, pairs, position}
 use Rattle.networks.specs.Nets.{Net}
+use Rattle.tracing.specs.declared.Marks.{Marks}
 
--- Of the pairs at positions below `seen`, each entry is marked, and each marked pair is allowed. They are `end`, and the first
--- `end` words of the queue are their positions.
-pub record Queued (n : Net) (table queue : List ℕ) (seen end : ℕ) : Type 0 where
-  pub bytes : length table ≡ pairs n
-  pub words : length queue ≡ pairs n
-  pub binary : (i : ℕ) → i < seen → (slice_index table i ≡ 0) ⊎ (slice_index table i ≡ 1)
-  pub count : count_by (λ byte. nat_eq byte 1) (take seen table) ≡ end
-  pub within : (j : ℕ) → j < end → slice_index queue j < seen
-  pub marked : (j : ℕ) → j < end → slice_index table (slice_index queue j) ≡ 1
-  pub held : (i : ℕ) → i < seen → slice_index table i ≡ 1 → (j : ℕ) × (j < end) × (slice_index queue j ≡ i)
-  pub sound : (i : ℕ) → i < seen → slice_index table i ≡ 1 → Allowed n (i / n.places) (i % n.places)
-  pub entries : (i : ℕ) → i < seen → n.entry (i / n.places) (i % n.places) ≡ true → slice_index table i ≡ 1
+-- The marked pairs are `end`, and the first `end` words of the queue are their positions. The first `head` of them were taken.
+pub record Queued (m : Marks) : Type 0 where
+  pub few : length m.table.now < 2 ^ 32
+  pub words : length m.queue.now ≡ length m.table.now
+  pub binary : (i : ℕ) → (slice_index m.table.now i ≡ 0) ⊎ (slice_index m.table.now i ≡ 1)
+  pub count : count_by (λ byte. nat_eq byte 1) m.table.now ≡ m.end
+  pub marked : (j : ℕ) → j < m.end → slice_index m.table.now (slice_index m.queue.now j) ≡ 1
+  pub held : (i : ℕ) → slice_index m.table.now i ≡ 1 → (j : ℕ) × (j < m.end) × (slice_index m.queue.now j ≡ i)
+  pub reached : m.head ≤ m.end
 
--- The first m ways of the pair (c, d) were marked, and queued if they were not marked before: what was marked or queued stays.
-pub record Moved (n : Net) (c d m : ℕ) (table queue : List ℕ) (end : ℕ) (table' queue' : List ℕ) (end' : ℕ) : Type 0 where
-  pub queued : Queued n table' queue' (pairs n) end'
-  pub more : end ≤ end'
-  pub keeps : (i : ℕ) → slice_index table i ≡ 1 → slice_index table' i ≡ 1
-  pub front : (j : ℕ) → j < end → slice_index queue' j ≡ slice_index queue j
-  pub ways : (k : ℕ) → k < m → slice_index table' (position n (slice_index (n.ways c d) k) d) ≡ 1
+-- The table and the queue are those that were lent before.
+abbrev pub SameLent : Marks → Marks → Type 0
+SameLent before after = (after.table.ghost_name ≡ before.table.ghost_name) × (after.queue.ghost_name ≡ before.queue.ghost_name)
+
+-- What was marked or queued stays.
+pub record Grown (before after : Marks) : Type 0 where
+  pub lent : SameLent before after
+  pub bytes : length after.table.now ≡ length before.table.now
+  pub head : after.head ≡ before.head
+  pub more : before.end ≤ after.end
+  pub keeps : (i : ℕ) → slice_index before.table.now i ≡ 1 → slice_index after.table.now i ≡ 1
+  pub front : (j : ℕ) → j < before.end → slice_index after.queue.now j ≡ slice_index before.queue.now j
+
+-- The first queued pair that was not taken before, if there is one.
+abbrev pub Taken : Marks → Marks → Option ℕ → Type 0
+Taken before after None = (before.head ≡ before.end) × (after ≡ before)
+Taken before after (Some i) =
+    (before.head < before.end) × (i ≡ slice_index before.queue.now before.head) × (after ≡ record before { head = before.head + 1 })
+
+-- There is a byte for each pair, and each marked pair is allowed.
+pub record Sound (n : Net) (m : Marks) : Type 0 where
+  pub queued : Queued m
+  pub bytes : length m.table.now ≡ pairs n
+  pub allowed : (i : ℕ) → slice_index m.table.now i ≡ 1 → Allowed n (i / n.places) (i % n.places)
+
+-- Each entry at a position below k is marked.
+abbrev pub Entered : Net → Marks → ℕ → Type 0
+Entered n m k = (i : ℕ) → i < k → n.entry (i / n.places) (i % n.places) ≡ true → slice_index m.table.now i ≡ 1
+
+-- The pairs of these channels and the place d are marked.
+abbrev pub AllMarked : Net → Marks → List ℕ → ℕ → Type 0
+AllMarked n m channels d = All (λ c. slice_index m.table.now (position n c d) ≡ 1) channels
 
 -- The pair at position i is home, or its ways are marked.
-abbrev pub Passed : Net → List ℕ → ℕ → Type 0
-Passed n table i =
-    n.home (i / n.places) (i % n.places) ≡ false → (k : ℕ) → k < length (n.ways (i / n.places) (i % n.places)) → slice_index table (position n (slice_index (n.ways (i / n.places) (i % n.places)) k) (i % n.places)) ≡ 1
+abbrev pub Passed : Net → Marks → ℕ → Type 0
+Passed n m i = n.home (i / n.places) (i % n.places) ≡ false → AllMarked n m (n.ways (i / n.places) (i % n.places)) (i % n.places)
 
--- The first `head` pairs of the queue are home, or their ways are marked.
-pub record Followed (n : Net) (table queue : List ℕ) (head end : ℕ) : Type 0 where
-  pub queued : Queued n table queue (pairs n) end
-  pub reached : head ≤ end
-  pub closed : (j : ℕ) → j < head → Passed n table (slice_index queue j)
+-- All entries are marked, and each pair that was taken is home, or its ways are marked.
+pub record Followed (n : Net) (m : Marks) : Type 0 where
+  pub sound : Sound n m
+  pub entered : Entered n m (pairs n)
+  pub passed : (j : ℕ) → j < m.head → Passed n m (slice_index m.queue.now j)

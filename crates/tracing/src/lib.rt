@@ -2,85 +2,139 @@
 
 #![tactic(auto)]
 
-ghost use Rattle.std.specs.Prelude.{◌≡◌, ◌<◌, false, length};
+ghost use Rattle.std.specs.Prelude.{◌≡◌, ◌/◌, ◌%◌, ◌^◌, ◌<◌, false, length, slice_set};
 ghost use Rattle.networks.specs.Allowed.{Allowed, pairs};
 ghost use Rattle.networks.specs.Cleared.{AllZero};
-ghost use Rattle.tracing.specs.Queues.{Queued, Moved, Followed};
-ghost use Rattle.tracing.specs.Traces.{Traces};
+ghost use Rattle.tracing.specs.Queues.{Queued, SameLent, Grown, Taken, Sound, AllMarked, Followed};
+ghost use Rattle.tracing.specs.Traces.{Traced, Traces};
 
 use networks::Network;
 use networks::faults::{Buffer, StudyFault};
 use networks::guard::Cleared;
+use networks::pairs::{Pair, Ways, pair_count};
 
-// Marks the entries and no other pair, and queues them. Answers how many there are.
-fn enter<N: Network>(net: &N, table: &mut [u8], queue: &mut [u32]) -> usize
-    requires bytes { length table.old ≡ pairs (N.meaning net.now) }
-    requires words { length queue.old ≡ pairs (N.meaning net.now) }
-    ensures { Queued (N.meaning net.now) table.new queue.new (pairs (N.meaning net.now)) result }
+// The pair at a position of a table of all pairs.
+fn pair_at(position: usize, places: u16) -> Pair
+    requires some { 0 < places }
+    requires fits { position / places < 2 ^ 16 }
+    ensures channel { result.channel ≡ position / places }
+    ensures place { result.place ≡ position % places }
 {
-    let places = usize::from(net.places());
-    let mut end = 0;
-    for i in 0..table.len() {
-        let channel = (i / places) as u16;
-        let place = (i % places) as u16;
-        if net.entry(channel, place) {
-            table[i] = 1;
-            queue[end] = i as u32;
-            end += 1;
-        } else {
-            table[i] = 0;
-        }
+    let places = usize::from(places);
+    Pair {
+        channel: (position / places) as u16,
+        place: (position % places) as u16,
     }
-    end
 }
 
-// Marks and queues the pairs that the ways of an allowed pair lead to, unless they are marked. Answers the queue's new end.
-fn follow_ways<N: Network>(
-    net: &N,
-    table: &mut [u8],
-    queue: &mut [u32],
-    mut end: usize,
-    channel: u16,
-    place: u16,
-) -> usize
-    requires queued { Queued (N.meaning net.now) table.old queue.old (pairs (N.meaning net.now)) end }
-    requires place { place < (N.meaning net.now).places }
-    requires allowed { Allowed (N.meaning net.now) channel place }
-    requires away { (N.meaning net.now).home channel place ≡ false }
-    ensures { Moved (N.meaning net.now) channel place (length ((N.meaning net.now).ways channel place)) table.old queue.old end table.new queue.new result }
-{
-    let places = usize::from(net.places());
-    for k in 0..net.way_count(channel, place) {
-        if let Some(next) = net.way(channel, place, k) {
-            let i = usize::from(next) * places + usize::from(place);
-            if table[i] == 0 {
-                table[i] = 1;
-                queue[end] = i as u32;
-                end += 1;
+// What is marked while a network is traced.
+#[derive(Drop)]
+struct Marks<'a> {
+    // a byte for each pair: 1 if it is marked, 0 if not
+    table: &'a mut [u8],
+    // the positions of the marked pairs in the order in which they were marked
+    queue: &'a mut [u32],
+    // how many are queued
+    end: usize,
+    // how many of these were taken
+    head: usize,
+}
+
+impl Marks<'_> {
+    // Marks the pair at a position and queues it, unless it is marked.
+    fn mark(&mut self, position: usize)
+        requires queued { Queued self.old }
+        requires inside { position < length self.old.table.now }
+        ensures queued { Queued self.new }
+        ensures marked { self.new.table.now ≡ slice_set self.old.table.now position 1 }
+        ensures grown { Grown self.old self.new }
+    {
+        if self.table[position] == 0 {
+            self.table[position] = 1;
+            self.queue[self.end] = position as u32;
+            self.end += 1;
+        }
+    }
+
+    // Takes the first queued pair that was not taken before. Answers its position.
+    fn take_next(&mut self) -> Option<usize>
+        requires { Queued self.old }
+        ensures { Taken self.old self.new result }
+    {
+        if self.head == self.end {
+            return None;
+        }
+        let position = self.queue[self.head] as usize;
+        self.head += 1;
+        Some(position)
+    }
+
+    // Marks the entries and no other pair.
+    fn enter<N: Network>(&mut self, net: &N)
+        requires bytes { length self.old.table.now ≡ pairs (N.meaning net.now) }
+        requires words { length self.old.queue.now ≡ pairs (N.meaning net.now) }
+        requires end { self.old.end ≡ 0 }
+        requires head { self.old.head ≡ 0 }
+        ensures lent { SameLent self.old self.new }
+        ensures followed { Followed (N.meaning net.now) self.new }
+    {
+        let places = net.places();
+        self.table.fill(0);
+        for position in 0..self.table.len() {
+            if net.entry(pair_at(position, places)) {
+                self.mark(position);
             }
         }
     }
-    end
+
+    // Marks the pairs that the ways of an allowed pair lead to.
+    fn follow_ways<N: Network>(&mut self, net: &N, pair: Pair)
+        requires sound { Sound (N.meaning net.now) self.old }
+        requires place { pair.place < (N.meaning net.now).places }
+        requires allowed { Allowed (N.meaning net.now) pair.channel pair.place }
+        requires away { (N.meaning net.now).home pair.channel pair.place ≡ false }
+        ensures sound { Sound (N.meaning net.now) self.new }
+        ensures grown { Grown self.old self.new }
+        ensures ways { AllMarked (N.meaning net.now) self.new ((N.meaning net.now).ways pair.channel pair.place) pair.place }
+    {
+        let places = net.places();
+        for channel in Ways::new(net, pair) {
+            self.mark(Pair { channel, ..pair }.position(places));
+        }
+    }
+
+    // Follows the ways of each marked pair that is not home, in the order of the queue.
+    fn follow<N: Network>(&mut self, net: &N)
+        requires { Followed (N.meaning net.now) self.old }
+        ensures lent { SameLent self.old self.new }
+        ensures followed { Followed (N.meaning net.now) self.new }
+        ensures all { self.new.head ≡ self.new.end }
+    {
+        let places = net.places();
+        while let Some(position) = self.take_next() {
+            let pair = pair_at(position, places);
+            if !net.home(pair) {
+                self.follow_ways(net, pair);
+            }
+        }
+    }
 }
 
-// Follows the ways of each queued pair that is not home, in the order of the queue. Answers how many pairs were queued in all.
-fn follow<N: Network>(net: &N, table: &mut [u8], queue: &mut [u32], entered: usize) -> usize
-    requires { Queued (N.meaning net.now) table.old queue.old (pairs (N.meaning net.now)) entered }
-    ensures { Followed (N.meaning net.now) table.new queue.new result result }
+// Marks the allowed pairs and no other. Answers how many there are.
+fn mark_allowed<N: Network>(net: &N, table: &mut [u8], queue: &mut [u32]) -> usize
+    requires bytes { length table.old ≡ pairs (N.meaning net.now) }
+    requires words { length queue.old ≡ pairs (N.meaning net.now) }
+    ensures { Traced (N.meaning net.now) table.old table.new result }
 {
-    let places = usize::from(net.places());
-    let mut end = entered;
-    let mut head = 0;
-    while head < end {
-        let i = queue[head] as usize;
-        let channel = (i / places) as u16;
-        let place = (i % places) as u16;
-        if !net.home(channel, place) {
-            end = follow_ways(net, table, queue, end, channel, place);
-        }
-        head += 1;
-    }
-    end
+    let mut marks = Marks {
+        table,
+        queue,
+        end: 0,
+        head: 0,
+    };
+    marks.enter(net);
+    marks.follow(net);
+    marks.end
 }
 
 /// Fills the table of allowed pairs: byte `c * places + d` is 1 if the pair (c, d) is allowed and 0 if not.
@@ -91,15 +145,10 @@ pub fn trace<N: Network>(net: &N, allowed: &mut [u8], work: &mut [u32]) -> Resul
     ensures cleared { AllZero work.new }
 {
     let guard = Cleared { words: work };
-    let pairs = usize::from(net.channels()) * usize::from(net.places());
-    if allowed.len() < pairs {
-        return Err(StudyFault::Short(Buffer::Allowed));
-    }
-    if guard.words.len() < pairs {
-        return Err(StudyFault::Short(Buffer::Work));
-    }
-    let table = &mut allowed[0..pairs];
-    let queue = &mut guard.words[0..pairs];
-    let entered = enter(net, table, queue);
-    Ok(follow(net, table, queue, entered))
+    let pairs = pair_count(net);
+    Buffer::Allowed.check(pairs, allowed.len())?;
+    Buffer::Work.check(pairs, guard.words.len())?;
+    let table = &mut allowed[..pairs];
+    let queue = &mut guard.words[..pairs];
+    Ok(mark_allowed(net, table, queue))
 }

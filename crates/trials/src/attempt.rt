@@ -1,7 +1,6 @@
 //! Tracing into buffers whose content shows what was written.
 
-ghost use Rattle.std.specs.Prelude.{◌≡◌, ◌^◌, ◌<◌, T};
-ghost use Rattle.networks.specs.Allowed.{pairs};
+ghost use Rattle.std.specs.Prelude.{T};
 ghost use Rattle.networks.specs.Cleared.{AllZero};
 
 use networks::Network;
@@ -14,23 +13,10 @@ const BYTE: u8 = 7;
 
 const WORD: u32 = 9;
 
-/// How many pairs of a channel and a place a network has.
-pub(super) fn pair_count<N: Network>(net: &N) -> usize
-    ensures value { result ≡ pairs (N.meaning net.now) }
-    ensures bound { result < 2 ^ 32 }
-{
-    usize::from(net.channels()) * usize::from(net.places())
-}
-
 fn all_zero(words: &[u32]) -> bool
     ensures { T result → AllZero words.now }
 {
-    for word in words {
-        if *word != 0 {
-            return false;
-        }
-    }
-    true
+    words.iter().all(|word| *word == 0)
 }
 
 /// What tracing a network answered and what it left in its buffers.
@@ -68,25 +54,16 @@ impl Attempt {
 
     // Whether the bytes of the table from a position on are as they were.
     fn untouched_from(&self, position: usize) -> bool {
-        for byte in self.table.iter().skip(position) {
-            if *byte != BYTE {
-                return false;
-            }
-        }
-        true
+        self.table.iter().skip(position).all(|byte| *byte == BYTE)
     }
 
     // How many of the table's first bytes, one for each pair, are 1. None where one of them is neither 0 nor 1.
     fn marked(&self, pairs: usize) -> Option<usize> {
-        let mut count = 0usize;
-        for byte in self.table.iter().take(pairs) {
-            match byte {
-                0 => {}
-                1 => count = count.saturating_add(1),
-                _ => return None,
-            }
+        let marks = self.table.as_slice().get(..pairs)?;
+        if marks.iter().any(|byte| *byte > 1) {
+            return None;
         }
-        Some(count)
+        Some(marks.iter().filter(|byte| **byte == 1).count())
     }
 
     /// Whether the buffers are as the answer says, for so many pairs: the work is 0; a refusal leaves the table; else the

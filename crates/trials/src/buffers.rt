@@ -1,8 +1,9 @@
 //! Tracing with buffers that suffice and buffers that do not.
 
-use crate::attempt::{Attempt, pair_count};
-use crate::failing::{Failure, Told, require};
+use crate::attempt::Attempt;
+use anyhow::ensure;
 use networks::Network;
+use networks::pairs::pair_count;
 use records::{Record, Size};
 use spidergon::Spidergon;
 use std::alloc::Global;
@@ -65,26 +66,23 @@ fn trace_into<N: Network>(
     net: &N,
     bytes: usize,
     words: usize,
-) -> Result<(), Failure> {
+) -> anyhow::Result<()> {
     let pairs = pair_count(net);
     let attempt = Attempt::new(rt.alloc(), net, bytes, words)?;
-    require(attempt.kept(pairs), "the buffers are as the answer says")?;
+    ensure!(attempt.kept(pairs), "the buffers are as the answer says");
     match attempt.answer {
         Ok(count) => println!(rt;
             "{pairs} pairs, {bytes} bytes, {words} words: {count} allowed pairs, the bytes beyond as they were, the work 0"
         )?,
-        Err(fault) => {
-            let told = Told(fault);
-            println!(rt;
-                "{pairs} pairs, {bytes} bytes, {words} words: {told}, the table as it was, the work 0"
-            )?;
-        }
+        Err(fault) => println!(rt;
+            "{pairs} pairs, {bytes} bytes, {words} words: {fault}, the table as it was, the work 0"
+        )?,
     }
     Ok(())
 }
 
 // Traces with buffers that are just long enough, longer, and too short.
-fn vary_lengths<N: Network>(rt: &HostRuntime, net: &N) -> Result<(), Failure> {
+fn vary_lengths<N: Network>(rt: &HostRuntime, net: &N) -> anyhow::Result<()> {
     let pairs = pair_count(net);
     let short = pairs.saturating_sub(1);
     let more = pairs + MORE;
@@ -105,14 +103,14 @@ fn vary_lengths<N: Network>(rt: &HostRuntime, net: &N) -> Result<(), Failure> {
 }
 
 // Traces the network into more bytes than it has pairs, and answers all of them.
-fn traced<N: Network>(heap: Global, net: &N) -> Result<Vec<u8>, Failure> {
+fn traced<N: Network>(heap: Global, net: &N) -> anyhow::Result<Vec<u8>> {
     let attempt = Attempt::new(heap, net, pair_count(net) + MORE, pair_count(net))?;
     attempt.answer?;
     Ok(attempt.table)
 }
 
 /// Tries buffers of several lengths with both sources of networks.
-pub(super) fn vary(rt: &HostRuntime) -> Result<(), Failure> {
+pub(super) fn vary(rt: &HostRuntime) -> anyhow::Result<()> {
     for size in RINGS {
         let ring = Spidergon::new(size)?;
         vary_lengths(rt, &ring)?;

@@ -1,8 +1,8 @@
 //! What is just within the limits of networks, and what is just beyond them.
 
-use crate::failing::{Failure, Told};
-use networks::Network;
+use crate::sources::{size_of, ways_of};
 use networks::faults::StudyFault;
+use networks::pairs::Pair;
 use records::{Record, Size};
 use spidergon::Spidergon;
 use std::alloc::{AllocError, Global};
@@ -46,65 +46,48 @@ const OUTSIDE: Record = Record::Home {
 };
 
 // A pair that is given as many ways as it can have, some of them twice.
-const CHANNEL: u16 = 4;
-
-const PLACE: u16 = 1;
+const PAIR: Pair = Pair {
+    channel: 4,
+    place: 1,
+};
 
 const WAYS: [u16; 8] = [8, 0, 3, 3, 1, 7, 0, 2];
 
 const fn way(next: u16) -> Record {
     Record::Way {
-        channel: CHANNEL,
-        place: PLACE,
+        channel: PAIR.channel,
+        place: PAIR.place,
         next,
     }
 }
 
-// Whether a network is made, and of what size.
+// The size of a network that was made, or why none was.
 #[derive(Clone, Copy)]
-enum Outcome {
-    Taken { channels: u16, places: u16 },
-    Refused(StudyFault),
-}
+struct Outcome(Result<Size, StudyFault>);
 
 impl Outcome {
-    fn taken<N: Network>(net: &N) -> Outcome {
-        Outcome::Taken {
-            channels: net.channels(),
-            places: net.places(),
-        }
-    }
-
     fn of_spidergon(size: u16) -> Outcome {
-        match Spidergon::new(size) {
-            Ok(ring) => Outcome::taken(&ring),
-            Err(fault) => Outcome::Refused(fault),
-        }
+        Outcome(Spidergon::new(size).map(|ring| size_of(&ring)))
     }
 
     fn of_table(heap: Global, size: Size, records: &[Record]) -> Outcome {
-        match Table::new(heap, size, records) {
-            Ok(table) => Outcome::taken(&table),
-            Err(fault) => Outcome::Refused(StudyFault::from(fault)),
-        }
+        let table = Table::new(heap, size, records).map_err(StudyFault::from);
+        Outcome(table.map(|table| size_of(&table)))
     }
 }
 
 impl fmt::Display for Outcome {
     fn fmt<W: fmt::Write>(&self, f: &mut fmt::Formatter<W>) -> fmt::Result {
-        match self {
-            Outcome::Taken { channels, places } => {
+        match self.0 {
+            Ok(Size { channels, places }) => {
                 write!(f, "taken, {channels} channels by {places} places")
             }
-            Outcome::Refused(fault) => {
-                let told = Told(*fault);
-                write!(f, "{told}")
-            }
+            Err(fault) => write!(f, "{fault}"),
         }
     }
 }
 
-fn spidergon_sizes(rt: &HostRuntime) -> Result<(), Failure> {
+fn spidergon_sizes(rt: &HostRuntime) -> anyhow::Result<()> {
     for size in [1, RING, RING + 1, 0] {
         let outcome = Outcome::of_spidergon(size);
         println!(rt; "spidergon of size {size}: {outcome}")?;
@@ -112,7 +95,7 @@ fn spidergon_sizes(rt: &HostRuntime) -> Result<(), Failure> {
     Ok(())
 }
 
-fn table_sizes(rt: &HostRuntime) -> Result<(), Failure> {
+fn table_sizes(rt: &HostRuntime) -> anyhow::Result<()> {
     let sizes = [
         (1, 1),
         (CHANNELS, PLACES),
@@ -131,7 +114,7 @@ fn table_sizes(rt: &HostRuntime) -> Result<(), Failure> {
 }
 
 // Records whose numbers are the last within a small size, or equal to a count.
-fn ranges(rt: &HostRuntime) -> Result<(), Failure> {
+fn ranges(rt: &HostRuntime) -> anyhow::Result<()> {
     let Size { channels, places } = SMALL;
     let (last_channel, last_place) = (channels - 1, places - 1);
     let line = FIRST_LINE + 1;
@@ -164,39 +147,19 @@ fn ranges(rt: &HostRuntime) -> Result<(), Failure> {
     Ok(())
 }
 
-// The ways of a pair, in their order.
-fn ways_of<N: Network>(
-    heap: Global,
-    net: &N,
-    channel: u16,
-    place: u16,
-) -> Result<Vec<u16>, AllocError> {
-    let mut ways = Vec::new(heap);
-    for position in 0..net.way_count(channel, place) {
-        if let Some(next) = net.way(channel, place, position) {
-            ways.push(next)?;
-        }
-    }
-    Ok(ways)
-}
-
 // Records that give one pair eight ways.
 fn eight_ways(heap: Global) -> Result<Vec<Record>, AllocError> {
-    let mut records = Vec::new(heap);
-    for next in WAYS {
-        records.push(way(next))?;
-    }
-    Ok(records)
+    WAYS.into_iter().map(way).collect(heap)
 }
 
 // The ways that a table of these records has.
-fn taken_ways(heap: Global) -> Result<Vec<u16>, Failure> {
+fn taken_ways(heap: Global) -> anyhow::Result<Vec<u16>> {
     let records = eight_ways(heap)?;
     let table = Table::new(heap, SMALL, records.as_slice())?;
-    Ok(ways_of(heap, &table, CHANNEL, PLACE)?)
+    Ok(ways_of(heap, &table, PAIR)?)
 }
 
-fn numbers_of_ways(rt: &HostRuntime) -> Result<(), Failure> {
+fn numbers_of_ways(rt: &HostRuntime) -> anyhow::Result<()> {
     let ways = taken_ways(rt.alloc())?;
     println!(rt; "eight ways of a pair: taken, {ways:?}")?;
     for next in [0, SMALL.channels] {
@@ -211,7 +174,7 @@ fn numbers_of_ways(rt: &HostRuntime) -> Result<(), Failure> {
     Ok(())
 }
 
-fn numbers_of_records(rt: &HostRuntime) -> Result<(), Failure> {
+fn numbers_of_records(rt: &HostRuntime) -> anyhow::Result<()> {
     for count in [MOST_RECORDS, MOST_RECORDS + 1, MOST_RECORDS + 2] {
         let records = vec![in rt.alloc(); ENTRY; count]?;
         let outcome = Outcome::of_table(rt.alloc(), SMALL, records.as_slice());
@@ -221,7 +184,7 @@ fn numbers_of_records(rt: &HostRuntime) -> Result<(), Failure> {
 }
 
 // Too many records, one of which has a fault of its own.
-fn faults_among_many(rt: &HostRuntime) -> Result<(), Failure> {
+fn faults_among_many(rt: &HostRuntime) -> anyhow::Result<()> {
     let count = MOST_RECORDS + 2;
     for position in [0, MOST_RECORDS - 1, MOST_RECORDS, MOST_RECORDS + 1] {
         let mut records = vec![in rt.alloc(); ENTRY; count]?;
@@ -239,7 +202,7 @@ fn faults_among_many(rt: &HostRuntime) -> Result<(), Failure> {
 }
 
 /// Tries sizes, numbers and counts at their limits.
-pub(super) fn approach(rt: &HostRuntime) -> Result<(), Failure> {
+pub(super) fn approach(rt: &HostRuntime) -> anyhow::Result<()> {
     spidergon_sizes(rt)?;
     table_sizes(rt)?;
     ranges(rt)?;

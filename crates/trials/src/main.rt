@@ -4,19 +4,16 @@
 
 mod attempt;
 mod buffers;
-mod failing;
 mod limits;
 mod sources;
 
-use crate::failing::Failure;
-
-fn run(rt: &HostRuntime) -> Result<(), Failure> {
+fn run(rt: &HostRuntime) -> anyhow::Result<()> {
     sources::tell_ways(rt)?;
     sources::compare(rt)?;
     limits::approach(rt)?;
     buffers::vary(rt)
 }
 
-fn main(rt: HostRuntime) -> Result<(), Failure> {
+fn main(rt: HostRuntime) -> anyhow::Result<()> {
     run(&rt)
 }

@@ -3,9 +3,10 @@
 ghost use Rattle.trials.specs.Alike.{AlikeAt, Alike};
 ghost use Rattle.std.specs.Prelude.{T};
 
-use crate::attempt::{Attempt, pair_count};
-use crate::failing::{Failure, require};
+use crate::attempt::Attempt;
+use anyhow::ensure;
 use networks::Network;
+use networks::pairs::{Pair, Ways, pair_count};
 use records::{Record, Size};
 use spidergon::Spidergon;
 use std::alloc::{AllocError, Global};
@@ -21,22 +22,13 @@ const SMALL: u16 = 2;
 const ENDS: [u16; 8] = [0, 1, 2, 3, 28, 29, 30, 31];
 
 // Whether two networks give the same answers about a pair, at one position past the last way too.
-fn same_at<A: Network, B: Network>(a: &A, b: &B, channel: u16, place: u16) -> bool
-    ensures { T result → AlikeAt (A.Network.meaning a.now) (B.Network.meaning b.now) channel place }
+fn same_at<A: Network, B: Network>(a: &A, b: &B, pair: Pair) -> bool
+    ensures { T result → AlikeAt (A.Network.meaning a.now) (B.Network.meaning b.now) pair.channel pair.place }
 {
-    let count = a.way_count(channel, place);
-    if a.entry(channel, place) != b.entry(channel, place)
-        || a.home(channel, place) != b.home(channel, place)
-        || count != b.way_count(channel, place)
-    {
-        return false;
-    }
-    for position in 0..=count {
-        if a.way(channel, place, position) != b.way(channel, place, position) {
-            return false;
-        }
-    }
-    true
+    a.entry(pair) == b.entry(pair)
+        && a.home(pair) == b.home(pair)
+        && a.way_count(pair) == b.way_count(pair)
+        && Ways::new(a, pair).eq(Ways::new(b, pair))
 }
 
 // Whether two networks give the same answers, at one channel and one place past the last too.
@@ -48,7 +40,7 @@ fn same_answers<A: Network, B: Network>(a: &A, b: &B) -> bool
     }
     for channel in 0..=a.channels() {
         for place in 0..=a.places() {
-            if !same_at(a, b, channel, place) {
+            if !same_at(a, b, Pair { channel, place }) {
                 return false;
             }
         }
@@ -56,8 +48,17 @@ fn same_answers<A: Network, B: Network>(a: &A, b: &B) -> bool
     true
 }
 
-// How many channels and places a network has.
-fn counts_of<N: Network>(net: &N) -> Size {
+/// The ways of a pair, in their order.
+pub(super) fn ways_of<N: Network>(
+    heap: Global,
+    net: &N,
+    pair: Pair,
+) -> Result<Vec<u16>, AllocError> {
+    Ways::new(net, pair).collect(heap)
+}
+
+/// How many channels and places a network has.
+pub(super) fn size_of<N: Network>(net: &N) -> Size {
     Size {
         channels: net.channels(),
         places: net.places(),
@@ -69,20 +70,19 @@ fn records_of<N: Network>(heap: Global, net: &N) -> Result<Vec<Record>, AllocErr
     let mut records = Vec::new(heap);
     for channel in 0..net.channels() {
         for place in 0..net.places() {
-            if net.entry(channel, place) {
+            let pair = Pair { channel, place };
+            if net.entry(pair) {
                 records.push(Record::Entry { channel, place })?;
             }
-            if net.home(channel, place) {
+            if net.home(pair) {
                 records.push(Record::Home { channel, place })?;
             }
-            for position in 0..net.way_count(channel, place) {
-                if let Some(next) = net.way(channel, place, position) {
-                    records.push(Record::Way {
-                        channel,
-                        place,
-                        next,
-                    })?;
-                }
+            for next in Ways::new(net, pair) {
+                records.push(Record::Way {
+                    channel,
+                    place,
+                    next,
+                })?;
             }
         }
     }
@@ -90,20 +90,20 @@ fn records_of<N: Network>(heap: Global, net: &N) -> Result<Vec<Record>, AllocErr
 }
 
 // Traces both networks, which have to agree, and answers how many pairs are allowed.
-fn same_traces<A: Network, B: Network>(heap: Global, a: &A, b: &B) -> Result<usize, Failure> {
+fn same_traces<A: Network, B: Network>(heap: Global, a: &A, b: &B) -> anyhow::Result<usize> {
     let pairs = pair_count(a);
     let of_a = Attempt::new(heap, a, pairs, pairs)?;
     let of_b = Attempt::new(heap, b, pairs, pairs)?;
-    require(
+    ensure!(
         of_a.kept(pairs) && of_b.kept(pairs),
-        "the buffers are as the answer says",
-    )?;
-    require(
+        "the buffers are as the answer says"
+    );
+    ensure!(
         of_a.table.as_slice() == of_b.table.as_slice(),
-        "the same table",
-    )?;
+        "the same table"
+    );
     let count = of_a.answer?;
-    require(of_b.answer? == count, "the same count")?;
+    ensure!(of_b.answer? == count, "the same count");
     Ok(count)
 }
 
@@ -115,11 +115,11 @@ struct Common {
 }
 
 impl Common {
-    fn new(heap: Global, size: u16) -> Result<Common, Failure> {
+    fn new(heap: Global, size: u16) -> anyhow::Result<Common> {
         let ring = Spidergon::new(size)?;
         let records = records_of(heap, &ring)?;
-        let table = Table::new(heap, counts_of(&ring), records.as_slice())?;
-        require(same_answers(&ring, &table), "the same answers")?;
+        let table = Table::new(heap, size_of(&ring), records.as_slice())?;
+        ensure!(same_answers(&ring, &table), "the same answers");
         let allowed = same_traces(heap, &ring, &table)?;
         Ok(Common {
             records: records.len(),
@@ -130,13 +130,8 @@ impl Common {
 
 // All records but the one at a position.
 fn without(heap: Global, records: &[Record], left_out: usize) -> Result<Vec<Record>, AllocError> {
-    let mut rest = Vec::new(heap);
-    for (position, record) in records.iter().enumerate() {
-        if position != left_out {
-            rest.push(*record)?;
-        }
-    }
-    Ok(rest)
+    let others = records.iter().enumerate().filter(|r| r.0 != left_out);
+    others.map(|r| *r.1).collect(heap)
 }
 
 // Tables that lack one record of a Spidergon.
@@ -148,13 +143,13 @@ struct Lacking {
 
 impl Lacking {
     // Counts the tables, and those that give other answers than the Spidergon.
-    fn new(heap: Global, size: u16) -> Result<Lacking, Failure> {
+    fn new(heap: Global, size: u16) -> anyhow::Result<Lacking> {
         let ring = Spidergon::new(size)?;
         let records = records_of(heap, &ring)?;
         let mut unlike = 0usize;
         for position in 0..records.len() {
             let rest = without(heap, records.as_slice(), position)?;
-            let table = Table::new(heap, counts_of(&ring), rest.as_slice())?;
+            let table = Table::new(heap, size_of(&ring), rest.as_slice())?;
             if !same_answers(&ring, &table) {
                 unlike = unlike.saturating_add(1);
             }
@@ -172,15 +167,13 @@ fn first_ways<N: Network>(
     net: &N,
     channel: u16,
 ) -> Result<Vec<Option<u16>>, AllocError> {
-    let mut ways = Vec::new(heap);
-    for place in 0..net.places() {
-        ways.push(net.way(channel, place, 0))?;
-    }
-    Ok(ways)
+    (0..net.places())
+        .map(|place| net.way(Pair { channel, place }, 0))
+        .collect(heap)
 }
 
 /// Tells where channels of a small Spidergon lead.
-pub(super) fn tell_ways(rt: &HostRuntime) -> Result<(), Failure> {
+pub(super) fn tell_ways(rt: &HostRuntime) -> anyhow::Result<()> {
     let ring = Spidergon::new(SMALL)?;
     for channel in ENDS {
         let ways = first_ways(rt.alloc(), &ring, channel)?;
@@ -190,7 +183,7 @@ pub(super) fn tell_ways(rt: &HostRuntime) -> Result<(), Failure> {
 }
 
 /// Compares Spidergons with the tables of their records.
-pub(super) fn compare(rt: &HostRuntime) -> Result<(), Failure> {
+pub(super) fn compare(rt: &HostRuntime) -> anyhow::Result<()> {
     for size in 1..=LARGEST {
         let common = Common::new(rt.alloc(), size)?;
         let records = common.records;

@@ -5,23 +5,23 @@ use Rattle.answers.proofs.study.Goals as goal
 
 pub returns-in_err-summary : goal.returns-in_err-summary
 returns-in_err-summary c =
-    let p = err_from_is_err_and c.from_residual.result c.from_residual.ensures.1 in
-    rw (p.1, p.2) (unread c.args.input.now c.if-input-gt-LIMIT.false _ refl _ _ c.in_err-summary.ensures.reading)
+    let p = err_from_is_err_and c.from_residual-in_err-summary.result c.from_residual-in_err-summary.ensures.1 in
+    rw (p.1, p.2) (unread c.args.input.now c.in_ok-check.ensures _ refl _ _ c.in_err-summary.ensures.reading)
 
 pub returns-in_err-check_size : goal.returns-in_err-check_size
 returns-in_err-check_size c =
     let p = err_from_is_err_and c.from_residual-in_err-check_size.result c.from_residual-in_err-check_size.ensures.1 in
     let e = c.in_err-check_size.ensures in
-    rw (p.1, p.2) (inl (too_large c.args.input.now c.if-input-gt-LIMIT.false _ refl _ _ c.in_ok-summary.ensures.reading _ e.0 e.1))
+    rw (p.1, p.2) (inl (too_large c.args.input.now c.in_ok-check.ensures _ refl _ _ c.in_ok-summary.ensures.reading _ e.0 e.1))
 
 pub returns-in_err-table : goal.returns-in_err-table
 returns-in_err-table c =
     let p = err_from_is_err_and c.from_residual-in_err-table.result c.from_residual-in_err-table.ensures.1 in
-    rw (p.1, p.2) (unmade c.args.input.now c.if-input-gt-LIMIT.false _ refl _ _ c.in_ok-summary.ensures.reading _ c.in_err-table.ensures.makes)
+    rw (p.1, p.2) (unmade c.args.input.now c.in_ok-check.ensures _ refl _ _ c.in_ok-summary.ensures.reading _ c.in_err-table.ensures.makes)
 
 pub returns-in_err-allowed : goal.returns-in_err-allowed
 returns-in_err-allowed c = absurd c.in_err-allowed.ensures
 
 pub returns : goal.returns
 returns c =
-    held c.args.input.now c.if-input-gt-LIMIT.false _ refl _ _ c.in_ok-summary.ensures.reading _ _ c.in_ok-check_size.ensures c.in_ok-table.ensures.makes.1 c.in_ok-allowed.ensures
+    held c.args.input.now c.in_ok-check.ensures _ refl _ _ c.in_ok-summary.ensures.reading _ _ c.in_ok-check_size.ensures c.in_ok-table.ensures.makes.1 c.in_ok-allowed.ensures

@@ -25,24 +25,24 @@ returns-in_err-end c =
 
 pub loop-record-init : goal.loop-record-init
 loop-record-init c =
-    starts c.args.file.now c.in_ok-size.size _ _ (rw c.new-reader.ensures.file at c.in_ok-size.ensures) c.new-reader.ensures.lines c.new-reader.ensures.passed c.args.out.now c.write.new.out c.in_ok-end.end (omega arith) c.in_ok-end.ensures.1
+    rw c.into_iter-record-iterator.ensures.into_iter_gives (starts c.args.file.now c.in_ok-size.size _ _ (rw c.new-reader.ensures.file at c.in_ok-size.ensures) c.new-reader.ensures.lines c.new-reader.ensures.passed c.args.out.now c.write.new.out c.in_ok-end.end (omega arith) c.in_ok-end.ensures.1)
 
 pub returns-in_err-record : goal.returns-in_err-record
 returns-in_err-record c =
     let said = c.in_ok-judge.ensures.answers in
-    absurd (no_fault c.args.file.now _ _ _ _ _ _ _ _ c.loop-record.invariant c.in_err-record.field-0.0 said.0 said.1 said.2 c.in_err-record.ensures.next)
+    absurd (no_fault c.args.file.now _ _ _ _ _ _ _ _ c.loop-record.invariant c.in_err-record.field-0.0 said.0 said.1 said.2 (rw c.in_err-record.was at c.in-Some.ensures.steps.1))
 
 pub returns-in_err-end-2 : goal.returns-in_err-end-2
 returns-in_err-end-2 c =
-    let next = rw c.in-Some.is at c.in_ok-record.ensures.next in
-    let room = record_room c.args.file.now _ _ _ _ _ _ _ _ c.loop-record.invariant c.in-Some.record next in
-    absurd (surely (letter_of c.in-Some.record) (numbers_of c.in-Some.record) c.loop-record.end c.loop-record.out c.write-in-Some.new.out c.in_err-end-2.field-0.0 next.2.small (omega (arith, room, c.if-out-file.false)) c.in_err-end-2.ensures)
+    let next = rw c.in_ok-record.was at c.in-Some.ensures.steps.1 in
+    let room = record_room c.args.file.now _ _ _ _ _ _ _ _ c.loop-record.invariant c.in_ok-record.field-0 next in
+    absurd (surely (letter_of c.in_ok-record.field-0) (numbers_of c.in_ok-record.field-0) c.loop-record.end c.loop-record.out c.write-in-loop-record.new.out c.in_err-end-2.field-0.0 next.2.small (omega (arith, room, c.if-out-file.false)) c.in_err-end-2.ensures)
 
 pub loop-record-preserved : goal.loop-record-preserved
 loop-record-preserved c =
-    let next = rw c.in-Some.is at c.in_ok-record.ensures.next in
-    more c.args.file.now _ _ _ _ _ _ _ _ c.loop-record.invariant c.in-Some.record _ _ next c.loop-record.auto.out c.in_ok-end-2.ensures.1
+    let next = rw c.in_ok-record.was at c.in-Some.ensures.steps.1 in
+    more c.args.file.now _ _ _ _ _ _ _ _ c.loop-record.invariant c.in_ok-record.field-0 _ _ next c.loop-record.auto.out c.in_ok-end-2.ensures.1
 
 pub returns : goal.returns
 returns c =
-    done c.args.file.now _ _ _ _ _ _ _ _ c.loop-record.invariant _ c.args.out.now (rw c.in_default.is at c.in_ok-record.ensures.next) (omega arith) c.in_ok-end.ensures.1
+    done c.args.file.now _ _ _ _ _ _ _ _ c.loop-record.invariant _ c.args.out.now c.in-None.ensures.steps.1 (omega arith) c.in_ok-end.ensures.1

@@ -1,6 +1,6 @@
 use Rattle.std.proofs.Common.{inl, arith}
 use Rattle.std.proofs.lemmas.Result.{err_from_is_err_and}
-use Rattle.files.proofs.LineByLine.{say-same-length}
+use Rattle.files.proofs.LineByLine.{fewer_records}
 use Rattle.netfiles.proofs.ByLine.{size_refused, blank_refused, begins, text_refused, record_refused, goes_on, accepted, too_many}
 use Rattle.netfiles.proofs.reading.judge_file.Goals as goal
 
@@ -14,41 +14,35 @@ returns-in_err-table c =
     let p = err_from_is_err_and c.from_residual-in_err-table.result c.from_residual-in_err-table.ensures.1 in
     rw (p.1, p.2) (blank_refused c.args.file.now c.args.room c.in_ok-size.size _ (rw c.new-reader.ensures.file at c.in_ok-size.ensures) c.in_err-table.ensures)
 
-pub loop-table-init : goal.loop-table-init
-loop-table-init c =
+pub loop-record-init : goal.loop-record-init
+loop-record-init c =
     let e = c.in_ok-table.ensures in
     begins c.args.file.now c.in_ok-size.size _ _ c.in_ok-table.table (rw c.new-reader.ensures.file at c.in_ok-size.ensures) c.new-reader.ensures.lines c.new-reader.ensures.passed e.0 e.1
 
 pub returns-in_err-record : goal.returns-in_err-record
 returns-in_err-record c =
     let p = err_from_is_err_and c.from_residual-in_err-record.result c.from_residual-in_err-record.ensures.1 in
-    rw (p.1, p.2) (inl (text_refused c.args.file.now c.args.room c.in_ok-size.size c.loop-table.records _ _ _ _ c.loop-table.table c.loop-table.invariant _ c.in_err-record.ensures.next))
+    rw (p.1, p.2) (inl (text_refused c.args.file.now c.args.room _ _ _ _ _ _ _ c.loop-record.invariant _ (rw c.in_err-record.was at c.in-Some.ensures.steps.1)))
 
 pub returns-in_err-add : goal.returns-in_err-add
 returns-in_err-add c =
     let p = err_from_is_err_and c.from_residual-in_err-add.result c.from_residual-in_err-add.ensures.1 in
-    let next = rw c.in-Some.is at c.in_ok-record.ensures.next in
-    rw (p.1, p.2) (inl (record_refused c.args.file.now c.args.room c.in_ok-size.size c.loop-table.records _ _ _ _ c.loop-table.table c.loop-table.invariant c.in-Some.record _ _ next c.line.ensures c.in_err-add.ensures.0))
+    let next = rw c.in_ok-record.was at c.in-Some.ensures.steps.1 in
+    rw (p.1, p.2) (inl (record_refused c.args.file.now c.args.room _ _ _ _ _ _ _ c.loop-record.invariant _ _ _ next c.line.ensures c.in_err-add.ensures.0))
 
 pub overflow_add-records : goal.overflow_add-records
-overflow_add-records c =
-    let u = c.loop-table.invariant.lines in
-    omega (arith, say-same-length u.good u.rs u.say, u.count, u.place, c.loop-table.reader.lines.counted)
+overflow_add-records c = omega (arith, fewer_records _ _ _ _ _ c.loop-record.invariant.lines)
 
-pub loop-table-preserved : goal.loop-table-preserved
-loop-table-preserved c =
-    let next = rw c.in-Some.is at c.in_ok-record.ensures.next in
+pub loop-record-preserved : goal.loop-record-preserved
+loop-record-preserved c =
     let e = c.in_ok-add.ensures in
-    goes_on c.args.file.now 0 c.in_ok-size.size c.loop-table.records _ _ _ _ c.loop-table.table c.loop-table.invariant c.in-Some.record c.add.new.self next e.0 e.1
+    goes_on c.args.file.now 0 _ _ _ _ _ _ _ c.loop-record.invariant _ _ (rw c.in_ok-record.was at c.in-Some.ensures.steps.1) e.0 e.1
 
 pub returns-in_err-check_count : goal.returns-in_err-check_count
 returns-in_err-check_count c =
     let p = err_from_is_err_and c.from_residual-in_err-check_count.result c.from_residual-in_err-check_count.ensures.1 in
-    let next = rw c.in_default.is at c.in_ok-record.ensures.next in
     let e = c.in_err-check_count.ensures in
-    rw (p.1, p.2) (inl (too_many c.args.file.now c.args.room c.in_ok-size.size c.loop-table.records _ _ _ _ c.loop-table.table c.loop-table.invariant _ next e.0 e.1))
+    rw (p.1, p.2) (inl (too_many c.args.file.now c.args.room _ _ _ _ _ _ _ c.loop-record.invariant _ c.in_default.ensures.steps.1 e.0 e.1))
 
 pub returns : goal.returns
-returns c =
-    let next = rw c.in_default.is at c.in_ok-record.ensures.next in
-    accepted c.args.file.now c.args.room c.in_ok-size.size c.loop-table.records _ _ _ _ c.loop-table.table c.loop-table.invariant next c.in_ok-check_count.ensures
+returns c = accepted c.args.file.now c.args.room _ _ _ _ _ _ _ c.loop-record.invariant c.in_default.ensures.steps.1 c.in_ok-check_count.ensures

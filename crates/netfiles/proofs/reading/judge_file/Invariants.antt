@@ -1,10 +1,9 @@
 use Rattle.std.proofs.Common.{length}
-use Rattle.lines.specs.Pieces.{lines_of}
 use Rattle.netfiles.proofs.ByLine.{Both}
 use Rattle.netfiles.proofs.reading.judge_file.Given as goal
 
-abbrev pub invariant-loop-table : goal.invariant-loop-table
-invariant-loop-table l = Both l.file l.size l.records l.reader.lines.passed (lines_of l.reader.lines.rest.now) l.table
+abbrev pub invariant-loop-record : goal.invariant-loop-record
+invariant-loop-record l = Both l.file l.size l.records l.reader.passed l.reader.left l.table
 
-abbrev pub decreases-loop-table : goal.decreases-loop-table
-decreases-loop-table l = length (lines_of l.reader.lines.rest.now)
+abbrev pub decreases-loop-record : goal.decreases-loop-record
+decreases-loop-record l = length l.reader.left

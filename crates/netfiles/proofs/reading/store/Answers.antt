@@ -1,33 +1,38 @@
-use Rattle.std.proofs.Common.{arith, rules}
-use Rattle.netfiles.proofs.Stores.{begins, room, goes_on, no_fault, done}
+use Rattle.std.proofs.Common.{inl, arith}
+use Rattle.lines.proofs.Laws.{few_lines}
+use Rattle.netfiles.proofs.Stores.{begins, room, handed_on, goes_on, ended, done}
 use Rattle.netfiles.proofs.reading.store.Goals as goal
 
-pub loop-next-init : goal.loop-next-init
-loop-next-init c = begins c.args.file.now _ _ c.args.list.now c.requires c.new-reader.ensures.lines c.new-reader.ensures.passed
+pub loop-at-init : goal.loop-at-init
+loop-at-init c =
+    let s = c.enumerate-at-items.ensures in
+    let m = c.map_while.ensures in
+    rw (c.into_iter-at-iterator.ensures.into_iter_gives, s.source, s.count, m.source) (begins c.args.file.now _ _ c.args.list.now c.requires c.new.ensures.lines c.new.ensures.passed)
 
-pub returns-in_default-next : goal.returns-in_default-next
-returns-in_default-next c = λ s rs reads. done c.args.file.now _ _ _ _ _ _ _ c.loop-next.invariant s rs reads (rw c.in_default-next.is at c.in-Ok.ensures.next)
+pub loop-at-init-derived : goal.loop-at-init-derived
+loop-at-init-derived c =
+    let s = c.enumerate-at-items.ensures in
+    let m = c.map_while.ensures in
+    let l = c.new.ensures.passed in
+    let f = few_lines c.args.file.now in
+    rw (c.into_iter-at-iterator.ensures.into_iter_gives, s.source, s.count, m.source) (((tt, record { at = λ xs t q x u a b d. tt }), tt, inl (omega arith)), tt)
 
 pub bounds-list-at : goal.bounds-list-at
 bounds-list-at c =
-    let r = room c.args.file.now _ _ _ _ _ _ _ c.loop-next.invariant c.in-Some.record (rw c.in-Some.is at c.in-Ok.ensures.next) in
-    let k = c.loop-next.auto.list in
-    omega arith
+    let s = c.in-Some.ensures.steps in
+    let o = handed_on c.in-Some.record s.0.0 (λ e. cc) (λ x k. k.met.0) s.0.2 in
+    let k = c.loop-at.auto.list in
+    let r = room c.args.file.now _ _ _ _ _ _ _ c.loop-at.invariant _ (rw o at s.0.1.1) in
+    omega (arith, s.1)
 
-pub offset_bounds-list-at : goal.offset_bounds-list-at
-offset_bounds-list-at c =
-    let r = room c.args.file.now _ _ _ _ _ _ _ c.loop-next.invariant c.in-Some.record (rw c.in-Some.is at c.in-Ok.ensures.next) in
-    let k = c.loop-next.auto.list in
-    search rules
-
-pub overflow_add-at : goal.overflow_add-at
-overflow_add-at c =
-    let r = room c.args.file.now _ _ _ _ _ _ _ c.loop-next.invariant c.in-Some.record (rw c.in-Some.is at c.in-Ok.ensures.next) in
-    let k = c.loop-next.auto.list in
-    search rules
-
-pub loop-next-preserved : goal.loop-next-preserved
-loop-next-preserved c = goes_on c.args.file.now _ _ _ _ _ _ _ c.loop-next.invariant c.in-Some.record (rw c.in-Some.is at c.in-Ok.ensures.next)
+pub loop-at-preserved : goal.loop-at-preserved
+loop-at-preserved c =
+    let s = c.in-Some.ensures.steps in
+    let o = handed_on c.in-Some.record s.0.0 (λ e. cc) (λ x k. k.met.0) s.0.2 in
+    rw (s.1, s.2) (goes_on c.args.file.now _ _ _ _ _ _ _ c.loop-at.invariant _ (rw o at s.0.1.1))
 
 pub returns : goal.returns
-returns c = λ s rs reads. absurd (no_fault c.args.file.now _ _ _ _ _ _ _ c.loop-next.invariant _ c.in_default.ensures.next)
+returns c =
+    let s = c.in-None.ensures.steps in
+    let next = ended c.args.file.now _ _ _ _ _ _ _ c.loop-at.invariant _ s.0.0 (λ x k. k.met.0) s.0.2 s.0.1.1 in
+    λ t rs reads. done c.args.file.now _ _ _ _ _ _ _ c.loop-at.invariant t rs reads next

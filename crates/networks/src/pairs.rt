@@ -1,0 +1,70 @@
+//! Pairs, and the ways of a pair one by one.
+
+ghost use Rattle.std.specs.Prelude.{◌≡◌, ◌+◌, ◌*◌, ◌^◌, ◌<◌, drop};
+ghost use Rattle.networks.specs.Allowed.{pairs};
+ghost use Rattle.std.specs.Iterator.{YieldsFirst, item_count};
+
+use crate::Network;
+
+/// A packet for a place in a channel; both are numbered from 0.
+#[derive(Clone, Copy, PartialEq, Eq, Debug)]
+pub struct Pair {
+    pub channel: u16,
+    pub place: u16,
+}
+
+impl Pair {
+    /// Where the pair stands in a table of all pairs, row by row.
+    pub fn position(self, places: u16) -> usize
+        ensures value { result ≡ self.channel * places + self.place }
+        ensures bound { result < 2 ^ 32 }
+    {
+        usize::from(self.channel) * usize::from(places) + usize::from(self.place)
+    }
+}
+
+/// How many pairs a network has.
+pub fn pair_count<N: Network>(net: &N) -> usize
+    ensures value { result ≡ pairs (N.meaning net.now) }
+    ensures bound { result < 2 ^ 32 }
+{
+    usize::from(net.channels()) * usize::from(net.places())
+}
+
+/// The ways of a pair that are still to come.
+#[derive(Drop)]
+pub struct Ways<'a, N: Network> {
+    net: &'a N,
+    pair: Pair,
+    // how many were handed out
+    passed: usize,
+}
+
+impl<'a, N: Network> Ways<'a, N> {
+    /// All ways of the pair, in their order.
+    pub fn new(net: &'a N, pair: Pair) -> Ways<'a, N>
+        ensures net { result.net.now ≡ net.now }
+        ensures pair { result.pair ≡ pair }
+        ensures passed { result.passed ≡ 0 }
+    {
+        Ways {
+            net,
+            pair,
+            passed: 0,
+        }
+    }
+}
+
+impl<'a, N: Network> Iterator for Ways<'a, N> {
+    type Item = u16;
+
+    ghost next_gives = { YieldsFirst (λ s. drop s.passed ((N.meaning s.net.now).ways s.pair.channel s.pair.place)) };
+
+    ghost remaining = { item_count (λ s. drop s.passed ((N.meaning s.net.now).ways s.pair.channel s.pair.place)) };
+
+    fn next(&mut self) -> Option<u16> {
+        let way = self.net.way(self.pair, self.passed)?;
+        self.passed += 1;
+        Some(way)
+    }
+}
