@@ -88,6 +88,7 @@ fn study(heap: Global, input: &[u8]) -> Result<Contents, StudyFault>
         (λ f. Rejects input.now f ⊎ Starves input.now f) }
 {
     Buffer::File.check(input.len(), LIMIT)?;
+    // reading fills a lent list, as a caller with fixed memory has it
     let mut list = [Record::Entry {
         channel: 0,
         place: 0,

@@ -1,6 +1,7 @@
 -- The fields behind a letter, read as numbers one after the other.
-use Rattle.std.proofs.Common.{◌≡◌, ℕ, ◌+◌, ◌<◌, true, List, [], ◌∷◌, ◌++◌, map, length, get_or, take, drop, decimal, sym, refl, ap, ◌∙◌, subst, arith, set}
+use Rattle.std.proofs.Common.{◌≡◌, ℕ, ◌+◌, ◌<◌, true, List, [], ◌∷◌, map, length, get_or, take, drop, decimal, sym, refl, ap, ◌∙◌, subst, arith, set}
 use Rattle.std.proofs.lemmas.List.{take_more, take_more_set, map-append, drop_more, take_all, length-drop, length-take-le, length-set, get_or-take}
+use Rattle.std.proofs.lemmas.List.Elements.{All-push, All-from_recursion, recursion_from_All}
 use Rattle.lines.specs.Numbers.{Spelled, Spells}
 use Rattle.lines.specs.Pieces.{RawLine}
 use Rattle.records.specs.declared.faults.TextFault.TheVariants.{NoNumber}
@@ -16,10 +17,6 @@ pub record Numbered (fs : List (List ℕ)) (ns : List ℕ) (n at passed : ℕ) (
   pub place : passed ≡ at + 1
   pub spelled : take at fs ≡ map decimal (take at ns)
   pub small : Small (take at ns)
-
-pub small_push : (ns : List ℕ) (x : ℕ) → Small ns → x < 10000 → Small (ns ++ x ∷ [])
-small_push [] x h s = (s, tt)
-small_push (n ∷ ns) x h s = (h.0, small_push ns x h.1 s)
 
 pub no_numbers : (fs : List (List ℕ)) (ns : List ℕ) (n passed : ℕ) {left : List (List ℕ)} → length fs ≡ n → length ns ≡ n → left ≡ fs → passed ≡ 1 → Numbered fs ns n 0 passed left
 no_numbers fs ns n passed c s l p = record { count = c; same = s; rest = l; place = omega arith; spelled = refl; small = tt }
@@ -58,7 +55,7 @@ module _ (fs : List (List ℕ)) (ns : List ℕ) (n at passed : ℕ) (left : List
         rest = sym i.1;
         place = let q = u.place in omega arith;
         spelled = cc;
-        small = subst Small (sym b) (small_push (take at ns) x u.small s.small);
+        small = subst Small (sym b) (let a = u.small in let b = s.small in search (All-push, All-from_recursion, recursion_from_All));
       }
 
   -- the next field spells no number

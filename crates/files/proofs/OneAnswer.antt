@@ -1,6 +1,7 @@
 -- A file says one thing or has one fault, and never both.
-use Rattle.std.proofs.Common.{◌≡◌, ℕ, suc, ◌+◌, true, List, [], ◌∷◌, ◌++◌, map, length, Ok, Err, Result, sym, refl, ap, ◌∙◌, arith}
+use Rattle.std.proofs.Common.{◌≡◌, ◌≢◌, ℕ, suc, ◌+◌, true, List, [], ◌∷◌, ◌++◌, map, length, Ok, Err, Result, sym, refl, ap, ◌∙◌, arith}
 use Rattle.std.proofs.lemmas.List.{append_assoc}
+use Rattle.std.proofs.lemmas.List.Elements.{All-append, All-from_recursion, recursion_from_All}
 use Rattle.std.specs.List.{flat_map}
 use Rattle.lines.specs.Pieces.{RawLine, Lacks, lines_of}
 use Rattle.lines.proofs.Laws.{lines_finished}
@@ -11,11 +12,14 @@ use Rattle.records.specs.declared.Size.{Size}
 use Rattle.files.specs.Answers.{summary, Answers, Sole}
 use Rattle.records.specs.Rendering.{numbers_text, size_numbers, numbers_of, size_text, record_text, finished, Small, AllSmall}
 use Rattle.files.specs.Says.{SaysSize, SayRecords, RecordFault, Reads, FileFault, empty, first, later}
-use Rattle.files.proofs.OneLine.{letter_above, lacks_decimal, lacks-append, size_or_fault, size_one, size_fault_one, record_or_fault, record_one, record_fault_one}
+use Rattle.files.proofs.OneLine.{letter_above, lacks_decimal, size_or_fault, size_one, size_fault_one, record_or_fault, record_one, record_fault_one}
 
 lacks_numbers : (ns : List ℕ) → Small ns → Lacks 10 (numbers_text ns)
 lacks_numbers [] h = tt
-lacks_numbers (n ∷ ns) h = ((λ e. omega arith), lacks-append 10 _ (numbers_text ns) (lacks_decimal 10 n (omega arith) h.0) (lacks_numbers ns h.1))
+lacks_numbers (n ∷ ns) h =
+    let front = All-from_recursion (λ y. y ≢ 10) _ (lacks_decimal 10 n (omega arith) h.0) in
+    let back = All-from_recursion (λ y. y ≢ 10) _ (lacks_numbers ns h.1) in
+    ((λ e. omega arith), recursion_from_All (λ y. y ≢ 10) _ (All-append (λ y. y ≢ 10) _ _ front back))
 
 -- the first line of a text, where that holds no byte 10 itself
 line_written : (line rest : List ℕ) → Lacks 10 line → lines_of (finished line ++ rest) ≡ (line, true) ∷ lines_of rest

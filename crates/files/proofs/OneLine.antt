@@ -1,6 +1,7 @@
 -- A line says one thing or has one fault, and never both.
-use Rattle.std.proofs.Common.{◌≡◌, ℕ, zero, suc, ◌<◌, ◌≤◌, true, ◌⊎◌, List, [], ◌∷◌, ◌++◌, map, length, get_or, drop, Some, None, decimal, Option, sym, refl, ap, ◌∙◌, subst, inl, inr, arith}
+use Rattle.std.proofs.Common.{◌≡◌, ℕ, zero, suc, ◌<◌, true, ◌⊎◌, ◌≢◌, List, [], ◌∷◌, map, length, get_or, drop, Some, None, decimal, Option, sym, refl, ap, ◌∙◌, subst, inl, inr, arith}
 use Rattle.std.proofs.lemmas.List.{length-map}
+use Rattle.std.proofs.lemmas.List.Elements.{All-from_get_or, recursion_from_All}
 use Rattle.std.proofs.lemmas.Bool.{cases_order}
 use Rattle.lines.specs.Numbers.{Spelled}
 use Rattle.lines.specs.Pieces.{RawLine, Lacks, fields_of, Apart}
@@ -15,17 +16,9 @@ use Rattle.records.specs.Rendering.{line_text, size_numbers, letter_of, numbers_
 use Rattle.files.specs.Says.{SaysSize, SaysRecord, first_field, behind, size_letter, record_letter, Misshapen, BadField, NumbersFault, SizeFaultBy, SizeFault, RecordFaultBy, RecordFault}
 use Rattle.files.proofs.Written.{line_of_numbers}
 
--- digits hold no byte below 48
-lacks_digits : (x : ℕ) (bs : List ℕ) → x < 48 → ((k : ℕ) → k < length bs → 48 ≤ get_or bs k 0) → Lacks x bs
-lacks_digits x [] h d = tt
-lacks_digits x (b ∷ bs) h d = ((λ e. let a = d 0 (omega arith) in omega arith), lacks_digits x bs h (λ k l. d (suc k) (omega arith)))
-
+-- digits are no byte below 48
 pub lacks_decimal : (x n : ℕ) → x < 48 → n < 10000 → Lacks x (decimal n)
-lacks_decimal x n h s = lacks_digits x (decimal n) h (λ k l. ((decimal_spelled n s).digits k l).0)
-
-pub lacks-append : (x : ℕ) (ds bs : List ℕ) → Lacks x ds → Lacks x bs → Lacks x (ds ++ bs)
-lacks-append x [] bs h k = k
-lacks-append x (d ∷ ds) bs h k = (h.0, lacks-append x ds bs h.1 k)
+lacks_decimal x n h s = recursion_from_All (λ y. y ≢ x) _ (All-from_get_or (λ y. y ≢ x) (decimal n) 0 (λ k l e. omega (arith, (decimal_spelled n s).digits k l)))
 
 apart_numbers : (ns : List ℕ) → Small ns → Apart (map decimal ns)
 apart_numbers [] h = tt

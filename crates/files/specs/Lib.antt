@@ -1,4 +1,4 @@
 pub mod Answers
-pub mod Reading
+pub mod ReaderView
 pub mod Rewrites
 pub mod Says

@@ -42,6 +42,7 @@ pub(super) fn numbers<const N: usize>(
         return Err(TextFault::WrongShape { line: line.number });
     }
     let mut numbers = [0; N];
+    // by index: nothing is known of what an adapter of iter_mut writes
     for (at, field) in Fields::after_first(rest).enumerate() {
         numbers[at] = number_in(field, line.number)?;
     }

@@ -3,7 +3,7 @@
 ghost use Rattle.std.specs.Prelude.{◌≡◌, ◌+◌, length, drop, MatchResult};
 ghost use Rattle.std.specs.Iterator.{item_count};
 ghost use Rattle.lines.specs.Pieces.{raw, lines_of};
-ghost use Rattle.files.specs.Reading.{Reading};
+ghost use Rattle.files.specs.ReaderView.{ReaderView};
 ghost use Rattle.files.specs.Says.{SaysSize, SizeFault, SaysRecord, RecordFault, FirstSays, NextSays};
 
 use crate::fields::{numbers, split_letter};
@@ -67,7 +67,7 @@ pub struct Reader<'a> {
 }
 
 impl<'a> Model for Reader<'a> {
-    ghost Value = { Reading };
+    ghost Value = { ReaderView };
 
     ghost view = { λ s. record { file = s.file.now; left = lines_of s.lines.rest; passed = s.lines.passed } };
 }

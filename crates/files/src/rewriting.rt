@@ -18,6 +18,7 @@ pub enum RewriteFault {
     Line(WriteFault),
 }
 
+// The conversions are written by hand, since promises name the error and a derived one has no contract.
 impl From<TextFault> for RewriteFault {
     ghost from_gives = { λ e r. r ≡ Text e };
 

@@ -1,19 +1,8 @@
 -- The lines of a file are the only ones that make it up, and the fields of a line.
-use Rattle.std.proofs.Common.{◌≡◌, ◌+◌, Option, Some, None, ℕ, zero, suc, ◌<◌, ◌≤◌, get_or, take, Bool, true, false, eqb, ◌⊎◌, List, [], ◌∷◌, ◌++◌, length, sym, refl, ap, ◌∙◌, inl, inr, arith}
-use Rattle.std.specs.Option.{IfSome}
+use Rattle.std.proofs.Common.{◌≡◌, ◌==◌, cond, Option, Some, None, ◌+◌, ℕ, ◌<◌, ◌≤◌, Bool, true, false, eqb, ◌⊎◌, List, [], ◌∷◌, ◌++◌, length, sym, refl, ap, ◌∙◌, inl, inr, arith}
 use Rattle.std.proofs.lemmas.List.{append-nil}
 use Rattle.std.proofs.lemmas.Bool.{eqb-true, eqb-false, ne_eqb}
-use Rattle.lines.specs.Pieces.{RawLine, on_line, lines_of, on_field, fields_of, fields_left, Lacks, ending, file_of, Whole, Lined, line_of, Apart, Fielded}
-
--- a byte that stands at no index
-pub lacks_all : (x : ℕ) (bs : List ℕ) → ((k : ℕ) → k < length bs → get_or bs k 0 ≡ x → ⊥) → Lacks x bs
-lacks_all x [] h = tt
-lacks_all x (b ∷ bs) h = (h 0 (omega arith), lacks_all x bs (λ k l. h (suc k) (omega arith)))
-
-pub lacks_before : (x : ℕ) (bs : List ℕ) (n : ℕ) → n ≤ length bs → ((k : ℕ) → k < n → get_or bs k 0 ≡ x → ⊥) → Lacks x (take n bs)
-lacks_before x bs zero l h = tt
-lacks_before x [] (suc n) l h = absurd (omega arith)
-lacks_before x (b ∷ bs) (suc n) l h = (h 0 (omega arith), lacks_before x bs n (omega arith) (λ k m. h (suc k) (omega arith)))
+use Rattle.lines.specs.Pieces.{RawLine, on_line, lines_of, on_field, fields_of, fields_left, most_left, Lacks, ending, file_of, Whole, Lined, line_of, Apart, Fielded}
 
 -- a finished line, and an unfinished one, in front of what follows
 pub lines_finished : (bs rest : List ℕ) → Lacks 10 bs → lines_of (bs ++ (10 ∷ rest)) ≡ (bs, true) ∷ lines_of rest
@@ -54,17 +43,30 @@ file_back : (xs : List ℕ) → file_of (lines_of xs) ≡ xs
 file_back [] = refl
 file_back (x ∷ xs) = file_more x xs (eqb x 10) refl (file_back xs)
 
+-- a file has no more lines than bytes, and a line at most one field more
+few : {A : Type 0} (b : Bool) (first : A) (more on : List A) → length on ≤ length more + 1 → length (cond b (first ∷ more) on) ≤ length more + 1
+few true first more on h = omega arith
+few false first more on h = h
+
 few_on_line : (x : ℕ) (ls : List RawLine) → length (on_line x ls) ≤ length ls + 1
 few_on_line x [] = omega arith
 few_on_line x (l ∷ ls) = omega arith
 
-more_lines : (x : ℕ) (xs : List ℕ) (b : Bool) → eqb x 10 ≡ b → length (lines_of xs) ≤ length xs → length (lines_of (x ∷ xs)) ≤ length (x ∷ xs)
-more_lines x xs true e ih = rw e (omega arith)
-more_lines x xs false e ih = let f = few_on_line x (lines_of xs) in rw e (omega arith)
+few_on_field : (x : ℕ) (fs : List (List ℕ)) → length (on_field x fs) ≤ length fs + 1
+few_on_field x [] = omega arith
+few_on_field x (f ∷ fs) = omega arith
 
 pub few_lines : (xs : List ℕ) → length (lines_of xs) ≤ length xs
 few_lines [] = omega arith
-few_lines (x ∷ xs) = more_lines x xs (eqb x 10) refl (few_lines xs)
+few_lines (x ∷ xs) = omega (arith, few_lines xs, few (x == 10) ([], true) (lines_of xs) _ (few_on_line x (lines_of xs)))
+
+few_fields : (xs : List ℕ) → length (fields_of xs) ≤ length xs + 1
+few_fields [] = omega arith
+few_fields (x ∷ xs) = omega (arith, few_fields xs, few (x == 9) [] (fields_of xs) _ (few_on_field x (fields_of xs)))
+
+pub few_left : {A : Type 0} (text : A → List ℕ) (rest : Option A) → length (fields_left text rest) ≤ most_left text rest
+few_left text None = omega arith
+few_left text (Some x) = few_fields (text x)
 
 whole_ended : (ls : List RawLine) → Whole ls → Whole (([], true) ∷ ls)
 whole_ended [] h = (tt, inl refl)
@@ -120,22 +122,6 @@ some_more x xs false e = rw e (some_front x (fields_of xs))
 pub some_fields : (xs : List ℕ) → 0 < length (fields_of xs)
 some_fields [] = omega arith
 some_fields (x ∷ xs) = some_more x xs (eqb x 9) refl
-
-few_front : (x : ℕ) (fs : List (List ℕ)) → length (on_field x fs) ≤ length fs + 1
-few_front x [] = omega arith
-few_front x (f ∷ fs) = omega arith
-
-few_more : (x : ℕ) (xs : List ℕ) (b : Bool) → eqb x 9 ≡ b → length (fields_of xs) ≤ length xs + 1 → length (fields_of (x ∷ xs)) ≤ length (x ∷ xs) + 1
-few_more x xs true e ih = rw e (omega arith)
-few_more x xs false e ih = let f = few_front x (fields_of xs) in rw e (omega arith)
-
-pub few_fields : (xs : List ℕ) → length (fields_of xs) ≤ length xs + 1
-few_fields [] = omega arith
-few_fields (x ∷ xs) = few_more x xs (eqb x 9) refl (few_fields xs)
-
-pub few_left : {A : Type 0} (text : A → List ℕ) (rest : Option A) (n : ℕ) → IfSome rest (λ x. length (text x) < n) → length (fields_left text rest) ≤ n
-few_left text None n h = omega arith
-few_left text (Some x) n h = omega (arith, few_fields (text x))
 
 joined_more : (x : ℕ) (xs : List ℕ) (b : Bool) → eqb x 9 ≡ b → line_of (fields_of xs) ≡ xs → line_of (fields_of (x ∷ xs)) ≡ x ∷ xs
 joined_more x xs true e ih = let t : x ≡ 9 = eqb-true x 9 e in let l = line_ended (fields_of xs) (some_fields xs) in rw e (cc)

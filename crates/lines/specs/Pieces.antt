@@ -1,5 +1,6 @@
 -- The lines of a file and the fields of a line.
 use Rattle.std.specs.Prelude.{◌≡◌, ℕ, ◌+◌, ◌<◌, Bool, true, false, cond, ◌⊎◌, List, [], ◌∷◌, ◌++◌, length, Some, None, Option, ◌==◌, ◌≢◌}
+use Rattle.std.specs.List.{AllByRecursion}
 use Rattle.lines.specs.declared.Line.{Line}
 
 -- a line: its bytes without the byte 10, and whether a byte 10 ends it
@@ -35,10 +36,14 @@ abbrev pub fields_left : {A : Type 0} → (A → List ℕ) → Option A → List
 fields_left text None = []
 fields_left text (Some rest) = fields_of (text rest)
 
+-- so many fields are left at most: one more than their text has bytes
+abbrev pub most_left : {A : Type 0} → (A → List ℕ) → Option A → ℕ
+most_left text None = 0
+most_left text (Some rest) = length (text rest) + 1
+
 -- the byte x stands nowhere in the list
 abbrev pub Lacks : ℕ → List ℕ → Type 0
-Lacks x [] = Unit {0}
-Lacks x (y ∷ ys) = (y ≢ x) × Lacks x ys
+Lacks x ys = AllByRecursion (λ y. y ≢ x) ys
 
 -- the byte 10 that ends a line, if it is finished
 abbrev pub ending : Bool → List ℕ
@@ -68,9 +73,9 @@ line_of [] = []
 line_of (f ∷ []) = f
 line_of (f ∷ (g ∷ fs)) = f ++ (9 ∷ line_of (g ∷ fs))
 
+-- no field holds a byte 9
 abbrev pub Apart : List (List ℕ) → Type 0
-Apart [] = Unit {0}
-Apart (f ∷ fs) = Lacks 9 f × Apart fs
+Apart fs = AllByRecursion (Lacks 9) fs
 
 -- Those are the fields of the line, and there are no others that make it up.
 pub record Fielded (line : List ℕ) : Type 0 where
@@ -80,6 +85,6 @@ pub record Fielded (line : List ℕ) : Type 0 where
   pub only : (fs : List (List ℕ)) → 0 < length fs → Apart fs → line_of fs ≡ line → fs ≡ fields_of line
 
 -- A piece that is handed out after n others has the number n + 1, and m are handed out then; without one n and m are the same.
-abbrev pub Numbers : {A : Type 0} → ℕ → (A → ℕ) → Option A → ℕ → Type 0
-Numbers n number None m = m ≡ n
-Numbers n number (Some piece) m = (number piece ≡ n + 1) × (m ≡ number piece)
+abbrev pub NextNumber : {A : Type 0} → ℕ → (A → ℕ) → Option A → ℕ → Type 0
+NextNumber n number None m = m ≡ n
+NextNumber n number (Some piece) m = (number piece ≡ n + 1) × (m ≡ number piece)

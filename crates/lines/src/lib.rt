@@ -6,7 +6,7 @@ ghost use Rattle.std.specs.Prelude.{◌≡◌, ℕ, List, Option, ◌+◌, ◌-�
 ghost use Rattle.std.specs.Iterator.{YieldsFirstBy, item_count};
 ghost use Rattle.std.specs.Option.{option_map};
 ghost use Rattle.lines.specs.Numbers.{Spelled, Spells};
-ghost use Rattle.lines.specs.Pieces.{raw, lines_of, Lacks, Lined, fields_of, fields_left, Fielded, Numbers};
+ghost use Rattle.lines.specs.Pieces.{raw, lines_of, Lacks, Lined, fields_of, fields_left, most_left, Fielded, NextNumber};
 ghost use Rattle.lines.specs.Unread.{Unread};
 
 use std::marker::Model;
@@ -21,6 +21,7 @@ pub struct Line<'a> {
     /// From 1 on.
     pub number: usize,
     /// Whether a byte 10 ends it.
+    // no Option of the bytes: it has them in both cases
     pub finished: bool,
 }
 
@@ -50,6 +51,7 @@ pub struct Field<'a> {
 }
 
 /// The fields of a line that are still to come.
+// no one type with the lines: behind a last byte 10 comes no line, behind a last byte 9 an empty field
 #[derive(Drop)]
 pub struct Fields<'a> {
     // what follows the fields that were handed out, if any does
@@ -63,7 +65,7 @@ impl<'a> Model for Fields<'a> {
 
     ghost view = { λ s. record { rest = option_map (λ x. x.now) s.rest; passed = s.passed } };
 
-    ghost invariant = { λ s. s.passed + length (fields_left (λ x. x.now) s.rest) < 2 ^ 64 };
+    ghost invariant = { λ s. s.passed + most_left (λ x. x.now) s.rest < 2 ^ 64 };
 }
 
 // What stands before the first byte `stop`, and what follows that byte, if there is one.
@@ -82,6 +84,7 @@ impl<'a> Lines<'a> {
     pub fn new(file: &'a [u8]) -> Lines<'a>
         ensures rest { result.rest ≡ file.now }
         ensures passed { result.passed ≡ 0 }
+        ensures few { length file.now < 2 ^ 63 }
     {
         Lines {
             rest: file,
@@ -91,7 +94,8 @@ impl<'a> Lines<'a> {
 
     /// How many lines were handed out.
     pub fn passed(&self) -> usize
-        ensures { result ≡ self.now.passed }
+        ensures few { self.now.passed + length self.now.rest < 2 ^ 63 }
+        ensures passed { result ≡ self.now.passed }
     {
         self.passed
     }
@@ -101,7 +105,7 @@ impl<'a> Lines<'a> {
 impl<'a> Iterator for Lines<'a> {
     type Item = Line<'a>;
 
-    ghost next_gives = { λ s r t. YieldsFirstBy raw (λ s. lines_of s.rest) s r t × Numbers s.passed (λ l. l.number) r t.passed × Lined s.rest };
+    ghost next_gives = { λ s r t. YieldsFirstBy raw (λ s. lines_of s.rest) s r t × NextNumber s.passed (λ l. l.number) r t.passed × Lined s.rest × (t.passed + length t.rest < 2 ^ 63) };
 
     ghost remaining = { item_count (λ s. lines_of s.rest) };
 
@@ -110,14 +114,11 @@ impl<'a> Iterator for Lines<'a> {
             return None;
         }
         let (bytes, after) = split_at_byte(self.rest, b'\n');
-        let number = self.passed + 1;
-        *self = Lines {
-            rest: after.unwrap_or(&[]),
-            passed: number,
-        };
+        self.rest = after.unwrap_or(&[]);
+        self.passed += 1;
         Some(Line {
             bytes,
-            number,
+            number: self.passed,
             finished: after.is_some(),
         })
     }
@@ -128,6 +129,7 @@ impl<'a> Fields<'a> {
     pub fn new(line: &'a [u8]) -> Fields<'a>
         ensures rest { fields_left (λ x. x) result.rest ≡ fields_of line.now }
         ensures passed { result.passed ≡ 0 }
+        ensures few { result.passed + most_left (λ x. x) result.rest < 2 ^ 64 }
     {
         Fields {
             rest: Some(line),
@@ -139,6 +141,7 @@ impl<'a> Fields<'a> {
     pub fn after_first(rest: Option<&'a [u8]>) -> Fields<'a>
         ensures rest { fields_left (λ x. x) result.rest ≡ fields_left (λ x. x.now) rest.entry }
         ensures passed { result.passed ≡ 1 }
+        ensures few { result.passed + most_left (λ x. x) result.rest < 2 ^ 64 }
     {
         Fields { rest, passed: 1 }
     }
@@ -148,18 +151,18 @@ impl<'a> Fields<'a> {
 impl<'a> Iterator for Fields<'a> {
     type Item = Field<'a>;
 
-    ghost next_gives = { λ s r t. YieldsFirstBy (λ f. f.bytes.now) (λ s. fields_left (λ x. x) s.rest) s r t × Numbers s.passed (λ f. f.number) r t.passed × IfSome s.rest Fielded };
+    ghost next_gives = { λ s r t. YieldsFirstBy (λ f. f.bytes.now) (λ s. fields_left (λ x. x) s.rest) s r t × NextNumber s.passed (λ f. f.number) r t.passed × IfSome s.rest Fielded × (t.passed + most_left (λ x. x) t.rest < 2 ^ 64) };
 
     ghost remaining = { item_count (λ s. fields_left (λ x. x) s.rest) };
 
     fn next(&mut self) -> Option<Field<'a>> {
         let (bytes, rest) = split_at_byte(self.rest?, b'\t');
-        let number = self.passed + 1;
-        *self = Fields {
-            rest,
-            passed: number,
-        };
-        Some(Field { bytes, number })
+        self.rest = rest;
+        self.passed += 1;
+        Some(Field {
+            bytes,
+            number: self.passed,
+        })
     }
 }
 
@@ -167,18 +170,9 @@ impl<'a> Iterator for Fields<'a> {
 pub fn read_number(field: &[u8]) -> Option<u16>
     ensures cases { MatchOption result (Spelled field.now → ⊥) (λ n. Spelled field.now × Spells field.now n) }
 {
-    if field.is_empty() || field.len() > MAX_DIGITS {
+    // `parse` also takes a plus and leading zeros
+    if field.len() > MAX_DIGITS || matches!(field, [b'+', ..] | [b'0', _, ..]) {
         return None;
     }
-    if field[0] == b'0' && field.len() > 1 {
-        return None;
-    }
-    let mut value: u16 = 0;
-    for digit in field {
-        if !digit.is_ascii_digit() {
-            return None;
-        }
-        value = value * 10 + u16::from(*digit - b'0');
-    }
-    Some(value)
+    std::str::from_utf8(field).ok()?.parse().ok()
 }

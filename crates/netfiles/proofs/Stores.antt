@@ -1,8 +1,8 @@
 -- Storing the records of a file.
-use Rattle.std.proofs.Common.{◌≡◌, ℕ, ◌+◌, ◌-◌, ◌<◌, ◌≤◌, List, [], ◌∷◌, ◌++◌, length, drop, set, Option, Some, None, Result, Ok, Err, sym, refl, ap, ◌∙◌, arith}
+use Rattle.std.proofs.Common.{◌≡◌, ℕ, ◌+◌, ◌-◌, ◌<◌, ◌≤◌, List, [], ◌∷◌, ◌++◌, length, drop, set, Option, Some, None, Result, Ok, Err, sym, ap, ◌∙◌, arith}
 use Rattle.std.specs.Option.{MatchOption}
 use Rattle.std.specs.Result.{result_ok}
-use Rattle.std.proofs.lemmas.List.{append_assoc, length-append, set-append_right, drop_more, nil_from_length}
+use Rattle.std.proofs.lemmas.List.{append_assoc, length-append, length-map, set-append_right, drop_more, nil_from_length}
 use Rattle.lines.specs.Pieces.{RawLine, lines_of}
 use Rattle.records.specs.declared.faults.TextFault.{TextFault}
 use Rattle.records.specs.declared.Record.{Record}
@@ -35,10 +35,6 @@ begins file passed left list h rest count =
     let u = lines.begins file h.size passed left (first_says file h.size h.records h.reads) rest count in
     record { size = h.size; records = h.records; reads = h.reads; few = h.few; lines = u; stored = ap (λ rs. rs ++ list) (sym (nil_from_length u.rs (sym u.count))) }
 
-rows-length : (rs : List Record) → length (rows rs) ≡ length rs
-rows-length [] = refl
-rows-length (r ∷ rs) = let e = rows-length rs in omega arith
-
 module _ (file : List ℕ) (passed m at : ℕ) (left rest : List RawLine) (old new : List Record) (b : Storing file passed left at old new) where
   pub room : (r : Record) → NextSays passed left (Some (Ok r)) m rest → at < length old
   room r h =
@@ -47,7 +43,7 @@ module _ (file : List ℕ) (passed m at : ℕ) (left rest : List RawLine) (old n
       let l = length-append u.good left in
       let i = ap length h.1 in
       let n = ap length (lines_read file b.size b.records b.reads) in
-      let k = rows-length b.records in
+      let k : length (rows b.records) ≡ length b.records = length-map b.records _ in
       let c = u.count in
       let d = lines.say-same-length u.good u.rs u.say in
       let f = b.few in

@@ -1,6 +1,7 @@
 -- The lines of records that make a table, written one behind the other.
-use Rattle.std.proofs.Common.{◌≡◌, ℕ, zero, suc, ◌+◌, ◌<◌, ◌≤◌, ◌⊎◌, List, [], ◌∷◌, length, get_or, take, Ok, Err, Result, sym, refl, ap, subst, inl, inr, arith}
+use Rattle.std.proofs.Common.{◌≡◌, ℕ, ◌+◌, ◌<◌, ◌≤◌, ◌⊎◌, List, [], ◌∷◌, length, get_or, take, Ok, Err, Result, sym, refl, ap, subst, inl, inr, arith}
 use Rattle.std.proofs.lemmas.List.{take_all}
+use Rattle.std.proofs.lemmas.List.Elements.{All-from_recursion}
 use Rattle.std.proofs.lemmas.List.Folds.{length-flat_map-take}
 use Rattle.std.specs.List.{AllByRecursion}
 use Rattle.std.specs.Result.{IsOk}
@@ -39,11 +40,6 @@ small_records n (r ∷ rs) few less h = (small_record n r few less h.0, small_re
 pub all_small : (s : Size) (rs : List Record) → Acceptable s rs → AllSmall rs
 all_small s rs a = small_records (drawn s rs) rs a.size.few_channels a.size.few_places a.fit.within
 
-small_at : (rs : List Record) (i : ℕ) (d : Record) → i < length rs → AllSmall rs → Small (numbers_of (get_or rs i d))
-small_at [] i d h a = absurd (omega arith)
-small_at (r ∷ rs) zero d h a = a.0
-small_at (r ∷ rs) (suc i) d h a = small_at rs i d (omega arith) a.1
-
 -- a line of numbers of at most four digits is written where the bytes suffice
 is_written : (letter : ℕ) (ns : List ℕ) (at : ℕ) (old new : List ℕ) (r : Result ℕ WriteFault) → Small ns → at + length (finished (line_text letter ns)) ≤ length old → WritesLine letter ns at old r new → IsOk r
 is_written letter ns at old new (Ok end) small room w = refl
@@ -54,7 +50,7 @@ pub record_written : (rs : List Record) (i at end : ℕ) (old half new : List �
 record_written rs i at end old half new r d h small room w =
     let split = length-flat_map-take record_line rs i d h in
     let ends = w.ends in
-    is_written (letter_of (get_or rs i d)) (numbers_of (get_or rs i d)) end half new r (small_at rs i d h small) (omega arith)
+    is_written (letter_of (get_or rs i d)) (numbers_of (get_or rs i d)) end half new r (All-from_recursion (λ r. Small (numbers_of r)) rs small i d h) (omega arith)
 
 pub one_more : (rs : List Record) (i at end next : ℕ) (old half new : List ℕ) (d : Record) → i < length rs → length half ≡ length old → Wrote (record_lines (take i rs)) at old half end → Wrote (record_line (get_or rs i d)) end half new next → Wrote (record_lines (take (i + 1) rs)) at old new next
 one_more rs i at end next old half new d h same w v =

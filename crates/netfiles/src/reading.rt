@@ -23,6 +23,7 @@ fn judge_file(heap: Global, file: &[u8], room: usize) -> Result<Summary, TableFa
     let size = reader.size()?;
     let mut table = Table::blank(heap, size)?;
     let mut records = 0;
+    // no `for`, since the reader is asked for its line in between
     while let Some(record) = reader.next() {
         table.add(reader.line(), record?)?;
         records += 1;
@@ -36,6 +37,7 @@ fn store(file: &[u8], list: &mut [Record])
     requires { Storable file.now (length list.old) }
     ensures { (s : Size) (rs : List Record) → Reads file.now s rs → list.new ≡ rs ++ drop (length rs) list.old }
 {
+    // by position: of what is written through an adapter of `iter_mut` the proof would know nothing
     for (at, record) in Reader::new(file).map_while(Result::ok).enumerate() {
         list[at] = record;
     }
@@ -43,6 +45,7 @@ fn store(file: &[u8], list: &mut [Record])
 
 /// Reads a file and puts its records at the start of the list, in the order of the file. Answers the size and how many
 /// records there are. A refusal leaves the list as it was.
+#[tactic(auto, using(crate::proofs::Readings::one_reading))]
 pub fn read_network(heap: Global, file: &[u8], list: &mut [Record]) -> Result<Summary, TableFault>
     ensures reading { Reading file.now list.old result list.new }
     ensures one { OneReading file.now (length list.old) }

@@ -36,6 +36,7 @@ fn write_records(records: &[Record], file: &mut [u8], at: usize) -> usize
     requires room { at + length (flat_map (λ q. finished (record_text q)) records.now) ≤ length file.old }
     ensures { Wrote (flat_map (λ q. finished (record_text q)) records.now) at file.old file.new result }
 {
+    // a fold would need a closure that changes the file, and is no plainer
     let mut end = at;
     for record in records {
         end = record.write(file, end).unwrap();
@@ -45,6 +46,7 @@ fn write_records(records: &[Record], file: &mut [u8], at: usize) -> usize
 
 /// Writes a size and records as a network file from the start of the lent bytes, and answers where it ends. Records that
 /// make no table are refused as making one refuses them. A refusal writes nothing.
+#[tactic(auto, using(crate::proofs::WrittenLines::all_small))]
 pub fn write_network(
     heap: Global,
     size: Size,

@@ -12,6 +12,7 @@ use std::error::Error;
 use std::fmt;
 
 /// Why a file or a list of records makes no table.
+// A field is the place in its line of the number that is meant: it is told as it is, so it is no enum.
 #[derive(Clone, Copy, PartialEq, Eq, Debug)]
 pub enum TableFault {
     /// The file's text has a fault.
@@ -47,6 +48,7 @@ pub enum StudyFault {
     SpidergonSize,
 }
 
+// The conversions are written by hand, since promises name the error and a derived one has no contract.
 impl From<TextFault> for TableFault {
     ghost from_gives = { λ e r. r ≡ Text e };
 

@@ -5,6 +5,8 @@ ghost use Rattle.networks.specs.Allowed.{pairs};
 ghost use Rattle.std.specs.Iterator.{YieldsFirst, item_count};
 
 use crate::Network;
+use records::Size;
+use std::marker::Model;
 
 /// A packet for a place in a channel; both are numbered from 0.
 #[derive(Clone, Copy, PartialEq, Eq, Debug)]
@@ -28,10 +30,14 @@ pub fn pair_count<N: Network>(net: &N) -> usize
     ensures value { result ≡ pairs (N.meaning net.now) }
     ensures bound { result < 2 ^ 32 }
 {
-    usize::from(net.channels()) * usize::from(net.places())
+    let size = Size {
+        channels: net.channels(),
+        places: net.places(),
+    };
+    size.pairs()
 }
 
-/// The ways of a pair that are still to come.
+/// The ways of a pair that are still to come, seen as their list.
 #[derive(Drop)]
 pub struct Ways<'a, N: Network> {
     net: &'a N,
@@ -40,12 +46,18 @@ pub struct Ways<'a, N: Network> {
     passed: usize,
 }
 
+impl<'a, N: Network> Model for Ways<'a, N> {
+    ghost use Rattle.std.specs.Prelude.{ℕ, List, drop};
+
+    ghost Value = { List ℕ };
+
+    ghost view = { λ s. drop s.passed ((N.meaning s.net.now).ways s.pair.channel s.pair.place) };
+}
+
 impl<'a, N: Network> Ways<'a, N> {
     /// All ways of the pair, in their order.
     pub fn new(net: &'a N, pair: Pair) -> Ways<'a, N>
-        ensures net { result.net.now ≡ net.now }
-        ensures pair { result.pair ≡ pair }
-        ensures passed { result.passed ≡ 0 }
+        ensures { result ≡ (N.meaning net.now).ways pair.channel pair.place }
     {
         Ways {
             net,
@@ -58,9 +70,9 @@ impl<'a, N: Network> Ways<'a, N> {
 impl<'a, N: Network> Iterator for Ways<'a, N> {
     type Item = u16;
 
-    ghost next_gives = { YieldsFirst (λ s. drop s.passed ((N.meaning s.net.now).ways s.pair.channel s.pair.place)) };
+    ghost next_gives = { YieldsFirst (λ ways. ways) };
 
-    ghost remaining = { item_count (λ s. drop s.passed ((N.meaning s.net.now).ways s.pair.channel s.pair.place)) };
+    ghost remaining = { item_count (λ ways. ways) };
 
     fn next(&mut self) -> Option<u16> {
         let way = self.net.way(self.pair, self.passed)?;

@@ -1,7 +1,7 @@
 -- Text written into bytes, piece after piece.
 use Rattle.std.proofs.Common.{◌≡◌, ℕ, ◌+◌, ◌-◌, ◌<◌, ◌≤◌, List, [], ◌∷◌, ◌++◌, length, get_or, take, drop, decimal, sym, refl, ap, ◌∙◌, arith}
-use Rattle.std.proofs.lemmas.List.{append_assoc, length-append, length-take-le, append-nil, take_at, take_all, take-append-drop, take_more, drop_at, drop-drop}
-use Rattle.records.specs.Rendering.{numbers_text, line_text, finished}
+use Rattle.std.proofs.lemmas.List.{append_assoc, length-append, length-take-le, append-nil, take_at, take-append-drop, take_more, drop_at, drop-drop}
+use Rattle.records.specs.Rendering.{numbers_text}
 use Rattle.records.specs.Writes.{Wrote}
 
 -- what was written, and what follows it
@@ -40,7 +40,3 @@ text_take_more ns i h =
 -- a line with one number more
 pub line_more : (letter : ℕ) (ns : List ℕ) (i : ℕ) (line next : List ℕ) → i < length ns → line ≡ letter ∷ numbers_text (take i ns) → next ≡ line ++ (9 ∷ decimal (get_or ns i 0)) → next ≡ letter ∷ numbers_text (take (i + 1) ns)
 line_more letter ns i line next h e f = f ∙ ap (λ t. t ++ (9 ∷ decimal (get_or ns i 0))) e ∙ ap (λ t. letter ∷ t) (sym (text_take_more ns i h))
-
--- the line of all numbers
-pub line_done : (letter : ℕ) (ns : List ℕ) (i : ℕ) (line next : List ℕ) → length ns ≤ i → line ≡ letter ∷ numbers_text (take i ns) → next ≡ line ++ (10 ∷ []) → next ≡ finished (line_text letter ns)
-line_done letter ns i line next h e f = f ∙ ap (λ t. t ++ (10 ∷ [])) e ∙ ap (λ t. (letter ∷ numbers_text t) ++ (10 ∷ [])) (take_all i ns h)

@@ -135,7 +135,7 @@ impl fmt::Display for TextFault {
     ghost output = { λ f. Some (told (parts_of f)) };
 
     fn fmt<W: fmt::Write>(&self, f: &mut fmt::Formatter<W>) -> fmt::Result {
-        self.parts().fmt(f)
+        TextFault::parts(*self).fmt(f)
     }
 }
 

@@ -2,6 +2,8 @@
 
 #![tactic(auto)]
 
+ghost use Rattle.std.specs.Prelude.{◌≡◌, ◌*◌, ◌^◌, ◌<◌};
+
 pub mod faults;
 pub mod writing;
 
@@ -10,6 +12,16 @@ pub mod writing;
 pub struct Size {
     pub channels: u16,
     pub places: u16,
+}
+
+impl Size {
+    /// How many pairs of a channel and a place there are.
+    pub fn pairs(self) -> usize
+        ensures value { result ≡ self.channels * self.places }
+        ensures bound { result < 2 ^ 32 }
+    {
+        usize::from(self.channels) * usize::from(self.places)
+    }
 }
 
 /// One statement about the packets for a place in a channel.

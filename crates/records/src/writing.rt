@@ -68,6 +68,7 @@ pub trait Statement: Copy {
 
     ghost numbers: { Self → List ℕ };
 
+    // the byte as it is written, and no enum, which would only be turned into that byte
     fn letter(self) -> u8
         ensures { result ≡ letter self };
 
@@ -83,6 +84,7 @@ pub trait Statement: Copy {
     }
 
     /// Writes its line into `out` from `at` on, and answers where the line ends. A refusal writes nothing.
+    // `out` and `at` are two parameters, since the promise speaks of all the lent bytes
     fn write(self, out: &mut [u8], at: usize) -> Result<usize, WriteFault>
         ensures { WritesLine (letter self) (numbers self) at out.old result out.new }
     {

@@ -17,7 +17,7 @@ const MAX_RECORDS: usize = 2_048;
 const BLANK: u8 = 7;
 
 // How writing files anew went.
-#[derive(Clone, Copy)]
+#[derive(Clone, Copy, Default)]
 struct Tally {
     written: u32,
     same: u32,
@@ -25,22 +25,7 @@ struct Tally {
 }
 
 impl Tally {
-    const NONE: Tally = Tally {
-        written: 0,
-        same: 0,
-        refused: 0,
-    };
-
-    // A file was written into bytes of its length, and into one byte less.
-    fn with(self, same: bool, refused: bool) -> Tally {
-        Tally {
-            written: self.written.saturating_add(1),
-            same: self.same.saturating_add(u32::from(same)),
-            refused: self.refused.saturating_add(u32::from(refused)),
-        }
-    }
-
-    // What is written anew is the file, and one byte less is refused.
+    // A file written anew into bytes of its length, which has to be the same, and into one byte less, which has to be refused.
     fn with_written<E: Drop, W: Fn(&mut [u8]) -> Result<usize, E>>(
         self,
         heap: Global,
@@ -50,13 +35,16 @@ impl Tally {
         requires { W.IsAlwaysCallable write }
     {
         let mut room = vec![in heap; BLANK; file.len()]?;
-        let same = write(room.as_mut_slice()).is_ok_and(|end| end == file.len());
+        let same = write(room.as_mut_slice()).is_ok_and(|end| end == file.len())
+            && room.as_slice() == file;
         let mut short = vec![in heap; BLANK; file.len().saturating_sub(1)]?;
-        let refused = write(short.as_mut_slice()).is_err();
-        Ok(self.with(
-            same && room.as_slice() == file,
-            refused && short.iter().all(|byte| *byte == BLANK),
-        ))
+        let refused = write(short.as_mut_slice()).is_err()
+            && short.iter().all(|byte| *byte == BLANK);
+        Ok(Tally {
+            written: self.written.saturating_add(1),
+            same: self.same.saturating_add(u32::from(same)),
+            refused: self.refused.saturating_add(u32::from(refused)),
+        })
     }
 
     // The text of a file, written anew if it is in order.
@@ -97,8 +85,8 @@ impl Tally {
 }
 
 fn run(rt: &HostRuntime) -> anyhow::Result<()> {
-    let mut texts = Tally::NONE;
-    let mut networks = Tally::NONE;
+    let mut texts = Tally::default();
+    let mut networks = Tally::default();
     for name in env::args(rt)?.skip(1) {
         let file = fs::read(rt, name.as_str())?;
         let line = answer(rt.alloc(), file.as_slice())?;

@@ -3,12 +3,13 @@ use Rattle.std.proofs.Common.{◌≡◌, ℕ, ◌+◌, ◌*◌, ◌/◌, ◌%◌
 use Rattle.std.proofs.lemmas.Nat.{div-mul-add, mod-mul-add}
 use Rattle.std.proofs.lemmas.List.{append-nil, get_or-set_same, get_or-set_other}
 use Rattle.std.proofs.lemmas.Bool.{ltb-true, lt-ltb, eq-eqb, and_from, and_parts, cond-true, cond-false}
+use Rattle.std.proofs.Math.Bool.{or-false, or-true}
 use Rattle.networks.specs.Nets.{Net}
 use Rattle.records.specs.declared.Record.TheVariants.{Entry, Home, Way}
 use Rattle.tables.specs.declared.cell.Cell.{Cell}
 use Rattle.tables.specs.Cells.{inside, cell_of, look, net_of, as_entry, as_home, with_way}
 use Rattle.tables.specs.Drawn.{adding}
-use Rattle.tables.proofs.Pairs.{Same, here, elsewhere, same_pair, or_none}
+use Rattle.tables.proofs.Pairs.{Same, here, elsewhere, same_pair}
 
 -- networks that answer alike are equal
 pub net_ext : {n m : Net} → n.channels ≡ m.channels → n.places ≡ m.places → ((c d : ℕ) → n.entry c d ≡ m.entry c d) → ((c d : ℕ) → n.home c d ≡ m.home c d) → ((c d : ℕ) → n.ways c d ≡ m.ways c d) → n ≡ m
@@ -25,10 +26,6 @@ cond_self false x = refl
 cond_test : (b : Bool) → cond b true false ≡ b
 cond_test true = refl
 cond_test false = refl
-
-or_all : (b : Bool) → true ≡ (b || true)
-or_all true = refl
-or_all false = refl
 
 module _ (channels places : ℕ) (cells : List Cell) (a b : ℕ) (in-channels : a < channels) (in-places : b < places) (there : a * places + b < length cells) where
   -- another pair has another cell
@@ -59,10 +56,10 @@ module _ (channels places : ℕ) (cells : List Cell) (a b : ℕ) (in-channels : 
   same says z plus none unit x is c d = grown says z plus none none unit x (is ∙ sym (unit _)) c d ∙ ap (plus (look says z channels places cells c d)) (cond_self (eqb a c && eqb b d) none)
 
   same_test : (says : Cell → Bool) (x : Cell) → says x ≡ says (cell_of places cells a b) → (c d : ℕ) → look says false channels places (set cells (a * places + b) x) c d ≡ (look says false channels places cells c d || false)
-  same_test says = same says false ◌||◌ false or_none
+  same_test says = same says false ◌||◌ false or-false
 
   more_test : (says : Cell → Bool) (x : Cell) → says x ≡ true → (c d : ℕ) → look says false channels places (set cells (a * places + b) x) c d ≡ (look says false channels places cells c d || (eqb a c && eqb b d))
-  more_test says x is c d = grown says false ◌||◌ false true or_none x (is ∙ or_all _) c d ∙ ap (λ t. look says false channels places cells c d || t) (cond_test (eqb a c && eqb b d))
+  more_test says x is c d = grown says false ◌||◌ false true or-false x (is ∙ sym (or-true _)) c d ∙ ap (λ t. look says false channels places cells c d || t) (cond_test (eqb a c && eqb b d))
 
   pub entry_added : net_of channels places (set cells (a * places + b) (as_entry (cell_of places cells a b))) ≡ adding (net_of channels places cells) (Entry a b)
   entry_added = net_ext refl refl (more_test (λ x. x.entry) _ refl) (same_test (λ x. x.home) _ refl) (same (λ x. x.ways) [] ◌++◌ [] append-nil _ refl)

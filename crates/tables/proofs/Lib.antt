@@ -4,6 +4,4 @@ pub mod ByRecord
 pub mod Limits
 mod Misfits
 pub mod OneAnswer
-mod OneCell
-mod OneTable
 mod Pairs

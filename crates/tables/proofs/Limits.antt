@@ -1,13 +1,15 @@
 -- The network of records that fit keeps the limits of networks.
 use Rattle.std.proofs.Common.{◌≡◌, ℕ, ◌<◌, Bool, false, ◌&&◌, eqb, List, [], ◌∷◌, refl, arith}
-use Rattle.std.proofs.ByRecursion.{All-append, All-get_or}
+use Rattle.std.proofs.ByRecursion.{All-append, All-weaker, All-get_or}
 use Rattle.std.proofs.lemmas.Bool.{cond_both, cond-false}
-use Rattle.std.specs.List.{flat_map, AllByRecursion}
+use Rattle.std.proofs.lemmas.List.Elements.{All-from_recursion}
+use Rattle.std.proofs.lemmas.List.Folds.{list_any_none}
+use Rattle.std.specs.List.{flat_map, list_any, AllByRecursion}
 use Rattle.records.specs.declared.Record.{Record}
 use Rattle.records.specs.declared.Record.TheVariants.{Entry, Home, Way}
 use Rattle.records.specs.declared.Size.{Size}
 use Rattle.networks.specs.Nets.{Net, Inside, Conditions}
-use Rattle.tables.specs.Drawn.{drawn, some, entry_by, home_by, way_by}
+use Rattle.tables.specs.Drawn.{drawn, entry_by, home_by, way_by}
 use Rattle.tables.specs.Makes.{SizeFits, Within, Fit}
 use Rattle.tables.proofs.Pairs.{Same, here, elsewhere, same_pair}
 
@@ -35,9 +37,8 @@ module _ (n : Net) (c d : ℕ) (out : Inside n c d → ⊥) where
   no_way (Home a b) w = refl
   no_way (Way a b h) w = cond-false _ _ _ (other a b (w 0 (omega arith)) (w 1 (omega arith)))
 
-  none_of : (p : Record → Bool) → ((r : Record) → Within n r → p r ≡ false) → (rs : List Record) → AllByRecursion (Within n) rs → some p rs ≡ false
-  none_of p h [] w = refl
-  none_of p h (r ∷ rs) w = rw (h r w.0) (none_of p h rs w.1)
+  none_of : (p : Record → Bool) → ((r : Record) → Within n r → p r ≡ false) → (rs : List Record) → AllByRecursion (Within n) rs → list_any p rs ≡ false
+  none_of p h rs w = list_any_none p rs (All-from_recursion (λ r. p r ≡ false) rs (All-weaker (Within n) (λ r. p r ≡ false) h rs w))
 
   no_ways : (rs : List Record) → AllByRecursion (Within n) rs → flat_map (λ r. way_by r c d) rs ≡ []
   no_ways [] w = refl

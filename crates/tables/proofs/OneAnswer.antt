@@ -2,6 +2,7 @@
 use Rattle.std.proofs.Common.{◌≡◌, ℕ, ◌+◌, ◌<◌, ◌&&◌, eqb, ◌⊎◌, List, [], ◌∷◌, ◌++◌, length, sym, refl, ap, ◌∙◌, subst, inl, inr, arith}
 use Rattle.std.proofs.lemmas.List.{length-append}
 use Rattle.std.proofs.lemmas.Bool.{cases_order, eq-eqb, and_from, cond-true}
+use Rattle.std.proofs.lemmas.Grind.{flat_map-append}
 use Rattle.std.specs.List.{flat_map, AllByRecursion}
 use Rattle.records.specs.declared.Record.{Record}
 use Rattle.records.specs.declared.Record.TheVariants.{Entry, Home, Way}
@@ -11,7 +12,6 @@ use Rattle.networks.specs.declared.faults.TableFault.TheVariants.{OutOfRange}
 use Rattle.networks.specs.Nets.{Net}
 use Rattle.tables.specs.Drawn.{drawn, way_by}
 use Rattle.tables.specs.Makes.{SizeFits, SizeMisfit, channels, places, Within, Full, FirstOutside, Misfit, outside, ninth, Takes, Fit, Acceptable, RecordsFault, size, first, many, OneFault}
-use Rattle.tables.proofs.ByRecord.{joined-append}
 
 -- two ways to part a list at an element
 pub data Parted {X : Type 0} (xs ys : List X) (x y : X) (xr yr : List X) : Type 0 where
@@ -46,7 +46,7 @@ way_counts s good rest (Entry a b) full fit = full
 way_counts s good rest (Home a b) full fit = full
 way_counts s good rest (Way a b h) full fit =
     let f : Record → List ℕ = λ r. way_by r a b in
-    let e = ap length (joined-append f good (Way a b h ∷ rest)) in
+    let e = ap length (flat_map-append f good (Way a b h ∷ rest)) in
     let l = length-append (flat_map f good) (flat_map f (Way a b h ∷ rest)) in
     let one = cond-true (eqb a a && eqb b b) (h ∷ []) [] (and_from (eqb a a) (eqb b b) (eq-eqb a a refl) (eq-eqb b b refl)) in
     let m = length-append (f (Way a b h)) (flat_map f rest) in

@@ -1,6 +1,6 @@
 -- The network that a size and a list of records draw.
 use Rattle.std.specs.Prelude.{ℕ, Bool, false, cond, ◌&&◌, ◌||◌, List, [], ◌∷◌, ◌++◌, ◌==◌}
-use Rattle.std.specs.List.{flat_map}
+use Rattle.std.specs.List.{flat_map, list_any}
 use Rattle.records.specs.declared.Record.{Record}
 use Rattle.records.specs.declared.Record.TheVariants.{Entry, Home, Way}
 use Rattle.records.specs.declared.Size.{Size}
@@ -31,19 +31,14 @@ way_by (Entry a b) c d = []
 way_by (Home a b) c d = []
 way_by (Way a b h) c d = cond (a == c && b == d) (h ∷ []) []
 
--- some record of the list does it
-abbrev pub some : (Record → Bool) → List Record → Bool
-some p [] = false
-some p (r ∷ rs) = p r || some p rs
-
 -- The ways of a pair stand in the order of the list.
 abbrev pub drawn : Size → List Record → Net
 drawn s rs =
     record {
       channels = s.channels;
       places = s.places;
-      entry = λ c d. some (λ r. entry_by r c d) rs;
-      home = λ c d. some (λ r. home_by r c d) rs;
+      entry = λ c d. list_any (λ r. entry_by r c d) rs;
+      home = λ c d. list_any (λ r. home_by r c d) rs;
       ways = λ c d. flat_map (λ r. way_by r c d) rs;
     }
 

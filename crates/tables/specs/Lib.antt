@@ -3,3 +3,4 @@ pub mod Drawn
 pub mod Filled
 pub mod Makes
 pub mod Meaning
+pub mod Sizes

@@ -11,6 +11,7 @@ use Rattle.networks.specs.Nets.{Net, most_channels, most_places, most_ways}
 use Rattle.tables.specs.declared.table.Table.{Table}
 use Rattle.tables.specs.Drawn.{drawn, adding}
 use Rattle.tables.specs.Meaning.{meaning_of}
+pub use Rattle.tables.specs.Sizes.{SizeFits}
 
 -- how many records a table takes
 abbrev pub most : ℕ
@@ -19,13 +20,6 @@ most = 65535
 -- how many records go into a list with room for so many
 abbrev pub limit : ℕ → ℕ
 limit room = min room most
-
--- The size is one of a network.
-pub record SizeFits (s : Size) : Type 0 where
-  pub some_channel : 1 ≤ s.channels
-  pub few_channels : s.channels ≤ most_channels
-  pub some_place : 1 ≤ s.places
-  pub few_places : s.places ≤ most_places
 
 -- The fault of a size names the first field that is outside its limits.
 pub data SizeMisfit (s : Size) (f : TableFault) : Type 0 where

@@ -35,10 +35,10 @@ not_inside t c d false y e f out = refl
 pub table_conditions : (t : Table) → Conditions (meaning_of t)
 table_conditions t =
     record {
-      some_channel = t.some_channel;
-      few_channels = t.few_channels;
-      some_place = t.some_place;
-      few_places = t.few_places;
+      some_channel = t.fits.some_channel;
+      few_channels = t.fits.few_channels;
+      some_place = t.fits.some_place;
+      few_places = t.fits.few_places;
       few_ways = few t;
       ways_inside = below t;
       outside = λ c d out. let e = not_inside t c d _ _ refl refl out in (cond-false _ _ _ e, cond-false _ _ _ e, cond-false _ _ _ e);

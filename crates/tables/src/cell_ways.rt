@@ -50,19 +50,18 @@ impl CellWays {
         self.room[..usize::from(self.count)].get(position).copied()
     }
 
-    /// The ways with one more behind them, if there is room for it.
-    pub(super) fn with(self, next: u16) -> Option<CellWays>
-        ensures { MatchOption result (most_ways ≤ length self) (λ ws. (length self < most_ways) × (ws ≡ self ++ (next ∷ []))) }
+    /// Puts one more way behind the others, if there is room for it.
+    pub(super) fn try_push(&mut self, next: u16) -> Option<()>
+        ensures { MatchOption result
+            ((most_ways ≤ length self.old) × (self.new ≡ self.old))
+            (λ _. (length self.old < most_ways) × (self.new ≡ self.old ++ (next ∷ []))) }
     {
         let count = usize::from(self.count);
         if count >= MAX_WAYS {
             return None;
         }
-        let mut room = self.room;
-        room[count] = next;
-        Some(CellWays {
-            count: self.count + 1,
-            room,
-        })
+        self.room[count] = next;
+        self.count += 1;
+        Some(())
     }
 }

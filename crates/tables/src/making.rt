@@ -24,20 +24,29 @@ const MAX_PLACES: u16 = 256;
 // The line on which the first record stands.
 const FIRST_LINE: usize = 2;
 
+// The places of the numbers in their line, counted from 1.
+const CHANNEL_FIELD: usize = 2;
+
+const PLACE_FIELD: usize = 3;
+
+const NEXT_FIELD: usize = 4;
+
 // Refuses a size outside the limits.
 fn check_size(size: Size) -> Result<(), TableFault>
     ensures { MatchResult result (λ _. SizeFits size) (λ f. SizeMisfit size f) }
 {
     if !(1..=MAX_CHANNELS).contains(&size.channels) {
-        return Err(TableFault::SizeOutOfLimits { field: 2 });
+        return Err(TableFault::SizeOutOfLimits {
+            field: CHANNEL_FIELD,
+        });
     }
     if !(1..=MAX_PLACES).contains(&size.places) {
-        return Err(TableFault::SizeOutOfLimits { field: 3 });
+        return Err(TableFault::SizeOutOfLimits { field: PLACE_FIELD });
     }
     Ok(())
 }
 
-/// Refuses more records than a table takes, and than go into a list with room for so many.
+/// Refuses more records than `room`, or than a table takes.
 pub fn check_count(count: usize, room: usize) -> Result<(), TableFault>
     ensures { MatchResult result (λ _. count ≤ limit room) (λ f. (limit room < count) × (f ≡ TooManyRecords (limit room + 2))) }
 {
@@ -67,8 +76,7 @@ impl Table {
         ensures { Begins size result }
     {
         check_size(size)?;
-        let count = usize::from(size.channels) * usize::from(size.places);
-        let cells = vec![in heap; Cell::BLANK; count]?;
+        let cells = vec![in heap; Cell::BLANK; size.pairs()]?;
         Ok(Table { size, cells })
     }
 
@@ -79,10 +87,16 @@ impl Table {
             (λ f. ((f ≡ OutOfRange line 2) × (self.now.size.channels ≤ pair.channel)) ⊎ ((f ≡ OutOfRange line 3) × (pair.channel < self.now.size.channels) × (self.now.size.places ≤ pair.place))) }
     {
         if pair.channel >= self.size.channels {
-            return Err(TableFault::OutOfRange { line, field: 2 });
+            return Err(TableFault::OutOfRange {
+                line,
+                field: CHANNEL_FIELD,
+            });
         }
         if pair.place >= self.size.places {
-            return Err(TableFault::OutOfRange { line, field: 3 });
+            return Err(TableFault::OutOfRange {
+                line,
+                field: PLACE_FIELD,
+            });
         }
         Ok(self.position(pair))
     }
@@ -97,10 +111,15 @@ impl Table {
             Record::Home { .. } => self.cells[at].home = true,
             Record::Way { next, .. } => {
                 if next >= self.size.channels {
-                    return Err(TableFault::OutOfRange { line, field: 4 });
+                    return Err(TableFault::OutOfRange {
+                        line,
+                        field: NEXT_FIELD,
+                    });
                 }
-                let ways = self.cells[at].ways.with(next);
-                self.cells[at].ways = ways.ok_or(TableFault::NinthWay { line })?;
+                self.cells[at]
+                    .ways
+                    .try_push(next)
+                    .ok_or(TableFault::NinthWay { line })?;
             }
         }
         Ok(())
@@ -113,8 +132,8 @@ impl Table {
         ensures one { OneFault size records.now }
     {
         let mut table = Table::blank(heap, size)?;
-        for (position, record) in records.iter().enumerate() {
-            table.add(position + FIRST_LINE, *record)?;
+        for (line, record) in (FIRST_LINE..).zip(records) {
+            table.add(line, *record)?;
         }
         check_count(records.len(), MAX_RECORDS)?;
         Ok(table)

@@ -1,8 +1,8 @@
 //! A network that cells hold.
 
-ghost use Rattle.std.specs.Prelude.{◌≡◌, ℕ, ◌*◌, ◌<◌, ◌≤◌, get_or, vec_len};
-ghost use Rattle.networks.specs.Nets.{most_channels, most_places};
+ghost use Rattle.std.specs.Prelude.{◌≡◌, ℕ, ◌*◌, ◌<◌, get_or, vec_len};
 ghost use Rattle.tables.specs.Cells.{blank, Sound};
+ghost use Rattle.tables.specs.Sizes.{SizeFits};
 
 use crate::cell::Cell;
 use records::Size;
@@ -12,10 +12,7 @@ pub struct Table {
     pub(super) size: Size,
     // row by row: cell c * places + d is that of channel c and place d
     pub(super) cells: Vec<Cell>,
-    ghost some_channel: { 1 ≤ size.channels },
-    ghost few_channels: { size.channels ≤ most_channels },
-    ghost some_place: { 1 ≤ size.places },
-    ghost few_places: { size.places ≤ most_places },
+    ghost fits: { SizeFits size },
     ghost whole: { vec_len cells ≡ size.channels * size.places },
     ghost sound: { (k : ℕ) → k < vec_len cells → Sound size.channels (get_or cells.items k blank) },
 }

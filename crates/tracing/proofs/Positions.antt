@@ -27,6 +27,9 @@ module _ (n : Net) (ok : Conditions n) where
   pub position_below : (c d : ℕ) → c < n.channels → d < n.places → position n c d < pairs n
   position_below c d l m = omega (arith, mul-add-lt c n.places d n.channels l m)
 
+  pub allowed_below : {c d : ℕ} → Allowed n c d → position n c d < pairs n
+  allowed_below {c} {d} a = let i = allowed_inside a in position_below c d i.channel i.place
+
   pub channel_of : (c d : ℕ) → d < n.places → position n c d / n.places ≡ c
   channel_of c d l = div-mul-add c n.places d l
 

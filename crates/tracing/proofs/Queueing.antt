@@ -1,11 +1,12 @@
 -- Marking pairs and queueing them.
-use Rattle.std.proofs.Common.{◌≡◌, ℕ, ◌+◌, ◌-◌, ◌/◌, ◌%◌, ◌<◌, ◌≤◌, true, false, cond, eqb, ◌≢◌, ◌⊎◌, List, ◌++◌, ◌∷◌, [], length, get_or, drop, set, Some, None, count_by, sym, refl, ap, subst, ◌∙◌, inl, inr, arith}
+use Rattle.std.proofs.Common.{◌≡◌, ℕ, zero, suc, ◌^◌, replicate, ◌+◌, ◌/◌, ◌%◌, ◌<◌, ◌≤◌, true, false, cond, eqb, ◌≢◌, ◌⊎◌, MutBor, List, ◌++◌, ◌∷◌, [], length, get_or, set, Some, None, count_by, sym, refl, ap, ◌∙◌, inl, inr, arith}
+use mathlib.Core.Logic.{∥∥₁_map, ∥∥₁_elim}
 use native.Mathlib.Decide.{ℕ_discrete}
-use Rattle.std.proofs.lemmas.List.{get_or_default, get_or-set_same, get_or-set_other, get_or_append_left, get_or-append_right, get_or-drop, get_or_past, length-set, take_all, take_at}
+use native.Mathlib.Nat.{ℕ_set}
+use Rattle.std.proofs.lemmas.List.{get_or_default, get_or-set_same, get_or-set_other, get_or_past, length-set, take_all}
 use Rattle.std.proofs.lemmas.List.Elements.{All-push, All-weaker, All-get_or}
 use Rattle.std.proofs.lemmas.List.Sums.{count_by-le-length, sum_by-set}
 use Rattle.std.proofs.lemmas.Bool.{le-ltb}
-use Rattle.std.proofs.lemmas.Nat.{mul-add-lt}
 use Rattle.std.proofs.lemmas.Iterator.Consumers.{YieldsList-from_first, YieldsList-turn}
 use Rattle.std.specs.Iterator.{Yields, YieldsFirst}
 use borrow.Author.Count.{below_more}
@@ -13,9 +14,10 @@ use Rattle.networks.specs.Allowed.{Allowed, enters, moves, pairs, position}
 use Rattle.networks.specs.Nets.{Net, Conditions}
 use Rattle.networks.specs.Rooms.{first_short}
 use Rattle.tracing.specs.declared.Marks.{Marks}
-use Rattle.tracing.specs.Queues.{Queued, Grown, Sound, Entered, AllMarked, Passed, Followed}
+use Rattle.tracing.specs.Queue.{Queued}
+use Rattle.tracing.specs.Queues.{Grown, Taken, Sound, Entered, AllMarked, Passed, Followed}
 use Rattle.tracing.specs.Traces.{Tells, Traced, rooms}
-use Rattle.tracing.proofs.Positions.{allowed_inside, position_below, channel_of, place_of}
+use Rattle.tracing.proofs.Positions.{allowed_inside, allowed_below, position_below, channel_of, place_of}
 
 abbrev one : ℕ → ℕ
 one byte = cond (eqb byte 1) 1 0
@@ -35,42 +37,78 @@ was_marked t i k h = go (ℕ_discrete k i)
     go (yes e) = inl e
     go (no ne) = inr (sym (get_or-set_other t i k 1 0 ne) ∙ h)
 
+-- no pair is marked yet
+count_none : (n : ℕ) → count_by (λ byte. eqb byte 1) (replicate n 0) ≡ 0
+count_none zero = refl
+count_none (suc n) = count_none n
+
+none_at : (n i : ℕ) → get_or (replicate {A = ℕ} n 0) i 0 ≡ 0
+none_at zero i = let none : List ℕ = [] in get_or_past none i 0 (omega arith)
+none_at (suc n) zero = refl
+none_at (suc n) (suc i) = none_at n i
+
+pub queued_none : {t q : List ℕ} → t ≡ replicate (length t) 0 → length t < 2 ^ 32 → length q ≡ length t → Queued t q 0 0
+queued_none {t} {q} e few words = record {
+  few = few;
+  words = words;
+  binary = λ i. let z = none t i e in omega arith;
+  count = ap (count_by (λ byte. eqb byte 1)) e ∙ count_none (length t);
+  marked = λ j h. absurd (omega arith);
+  held = λ i h. let z = none t i e in absurd (omega arith);
+  reached = omega arith;
+}
+  where
+    none : (t : List ℕ) (i : ℕ) → t ≡ replicate (length t) 0 → get_or t i 0 ≡ 0
+    none t i e = ap (λ xs. get_or xs i 0) e ∙ none_at (length t) i
+
 -- one pair more is marked and queued
-module _ {m : Marks} (x : Queued m) (i : ℕ) (l : i < length m.table.now) (e : get_or m.table.now i 0 ≡ 0) where
-  one_more : count_by (λ byte. eqb byte 1) (set m.table.now i 1) ≡ m.end + 1
-  one_more = let s = sum_by-set one m.table.now i 1 0 l in let z = ap one e in omega (arith, x.count)
+module _ {t q : List ℕ} {end head : ℕ} (x : Queued t q end head) (i : ℕ) (l : i < length t) (e : get_or t i 0 ≡ 0) where
+  one_more : count_by (λ byte. eqb byte 1) (set t i 1) ≡ end + 1
+  one_more = let s = sum_by-set one t i 1 0 l in let z = ap one e in omega (arith, x.count)
 
-  pub room : m.end < length m.queue.now
+  pub room : end < length q
   room =
-      let c = count_by-le-length (λ byte. eqb byte 1) (set m.table.now i 1) in
-      omega (arith, one_more, length-set m.table.now i 1, x.words)
+      let c = count_by-le-length (λ byte. eqb byte 1) (set t i 1) in
+      omega (arith, one_more, length-set t i 1, x.words)
 
-  new_word : get_or (set m.queue.now m.end i) m.end 0 ≡ i
-  new_word = get_or-set_same m.queue.now m.end i 0 room
+  new_word : get_or (set q end i) end 0 ≡ i
+  new_word = get_or-set_same q end i 0 room
 
-  old_word : (j : ℕ) → j ≢ m.end → get_or (set m.queue.now m.end i) j 0 ≡ get_or m.queue.now j 0
-  old_word j ne = get_or-set_other m.queue.now m.end j i 0 ne
+  old_word : (j : ℕ) → j ≢ end → get_or (set q end i) j 0 ≡ get_or q j 0
+  old_word j ne = get_or-set_other q end j i 0 ne
 
-  binary : (k : ℕ) → Dec (k ≡ i) → (get_or (set m.table.now i 1) k 0 ≡ 0) ⊎ (get_or (set m.table.now i 1) k 0 ≡ 1)
-  binary k (yes h) = inr (rw h (get_or-set_same m.table.now i 1 0 l))
-  binary k (no ne) = rw (get_or-set_other m.table.now i k 1 0 ne) (x.binary k)
+  binary : (k : ℕ) → Dec (k ≡ i) → get_or (set t i 1) k 0 ≤ 1
+  binary k (yes h) = let s = get_or-set_same t i 1 0 l in rw h (omega arith)
+  binary k (no ne) = rw (get_or-set_other t i k 1 0 ne) (x.binary k)
 
-  marked : (j : ℕ) → j < m.end + 1 → Dec (j ≡ m.end) → get_or (set m.table.now i 1) (get_or (set m.queue.now m.end i) j 0) 0 ≡ 1
-  marked j h (yes f) = rw (f, new_word) (get_or-set_same m.table.now i 1 0 l)
-  marked j h (no ne) = rw (old_word j ne) (set_marked m.table.now i (get_or m.queue.now j 0) l (λ _. x.marked j (omega arith)))
+  marked : (j : ℕ) → j < end + 1 → Dec (j ≡ end) → get_or (set t i 1) (get_or (set q end i) j 0) 0 ≡ 1
+  marked j h (yes f) = rw (f, new_word) (get_or-set_same t i 1 0 l)
+  marked j h (no ne) = rw (old_word j ne) (set_marked t i (get_or q j 0) l (λ _. x.marked j (omega arith)))
 
-  held : (k : ℕ) → (k ≡ i) ⊎ (get_or m.table.now k 0 ≡ 1) → (j : ℕ) × (j < m.end + 1) × (get_or (set m.queue.now m.end i) j 0 ≡ k)
-  held k (inl h) = (m.end, omega arith, new_word ∙ sym h)
-  held k (inr h) = let y = x.held k h in (y.0, omega (arith, y.1), old_word y.0 (omega (arith, y.1)) ∙ y.2)
+  held : (k : ℕ) → (k ≡ i) ⊎ (get_or t k 0 ≡ 1) → ∥ ((j : ℕ) × (j < end + 1) × (get_or (set q end i) j 0 ≡ k)) ∥₁
+  held k (inl h) = ∣ (end, omega arith, new_word ∙ sym h) ∣₁
+  held k (inr h) = ∥∥₁_map (x.held k h) (λ (y : (j : ℕ) × (j < end) × (get_or q j 0 ≡ k)). (y.0, omega (arith, y.1), old_word y.0 (omega (arith, y.1)) ∙ y.2))
 
-  pub queued_mark : {after : Marks} → after.table.now ≡ set m.table.now i 1 → after.queue.now ≡ set m.queue.now m.end i → after.end ≡ m.end + 1 → after.head ≡ m.head → Queued after
-  queued_mark {after} t q end head = record {
-    few = rw (t, length-set m.table.now i 1) x.few;
-    words = rw (t, q, length-set m.table.now i 1, length-set m.queue.now m.end i) x.words;
-    binary = λ k. rw t (binary k (ℕ_discrete k i));
-    count = rw (t, end) one_more;
-    marked = λ j h. rw (t, q) (marked j (omega arith) (ℕ_discrete j m.end));
-    held = λ k h. rw (q, end) (held k (was_marked m.table.now i k (rw t at h)));
+  -- the word behind those that count
+  pub word_written : Queued t (set q end i) end head
+  word_written = record {
+    few = x.few;
+    words = length-set q end i ∙ x.words;
+    binary = x.binary;
+    count = x.count;
+    marked = λ j h. rw (old_word j (omega arith)) (x.marked j h);
+    held = λ k h. ∥∥₁_map (x.held k h) (λ (y : (j : ℕ) × (j < end) × (get_or q j 0 ≡ k)). (y.0, y.1, old_word y.0 (omega (arith, y.1)) ∙ y.2));
+    reached = x.reached;
+  }
+
+  pub queued_mark : Queued (set t i 1) (set q end i) (end + 1) head
+  queued_mark = record {
+    few = rw (length-set t i 1) x.few;
+    words = rw (length-set t i 1, length-set q end i) x.words;
+    binary = λ k. binary k (ℕ_discrete k i);
+    count = one_more;
+    marked = λ j h. marked j h (ℕ_discrete j end);
+    held = λ k h. held k (was_marked t i k h);
     reached = omega (arith, x.reached);
   }
 
@@ -85,34 +123,30 @@ grown_both {a} {b} {c} x y = record {
 }
 
 -- an allowed pair is marked
-pub sound_mark : {n : Net} {m after : Marks} → Sound n m → (i : ℕ) → i < length m.table.now → Queued after → after.table.now ≡ set m.table.now i 1 → Grown m after → Allowed n (i / n.places) (i % n.places) → Sound n after × (get_or after.table.now i 0 ≡ 1)
-sound_mark {n} {m} {after} x i l q t g a = (
-  record { queued = q; bytes = g.bytes ∙ x.bytes; allowed = λ k h. allowed k (was_marked m.table.now i k (rw t at h)) },
-  rw t (get_or-set_same m.table.now i 1 0 l),
+pub sound_mark : {n : Net} (ok : Conditions n) {m after : Marks} {c d : ℕ} → Sound n m → Allowed n c d → after.table.now ≡ set m.table.now (position n c d) 1 → Grown m after → Sound n after × (get_or after.table.now (position n c d) 0 ≡ 1)
+sound_mark {n} ok {m} {after} {c} {d} x a t g = (
+  record { bytes = g.bytes ∙ x.bytes; allowed = λ k h. allowed k (was_marked m.table.now (position n c d) k (rw t at h)) },
+  rw t (get_or-set_same m.table.now (position n c d) 1 0 (omega (arith, allowed_below n ok a, x.bytes))),
 )
   where
-    allowed : (k : ℕ) → (k ≡ i) ⊎ (get_or m.table.now k 0 ≡ 1) → Allowed n (k / n.places) (k % n.places)
-    allowed k (inl h) = rw h a
+    allowed : (k : ℕ) → (k ≡ position n c d) ⊎ (get_or m.table.now k 0 ≡ 1) → Allowed n (k / n.places) (k % n.places)
+    allowed k (inl h) = let i = allowed_inside n ok a in rw (h, channel_of n ok c d i.place, place_of n ok c d i.place) a
     allowed k (inr h) = x.allowed k h
 
-pub entered_more : (n : Net) (m after : Marks) (i : ℕ) → Entered n m i → ((k : ℕ) → get_or m.table.now k 0 ≡ 1 → get_or after.table.now k 0 ≡ 1) → (n.entry (i / n.places) (i % n.places) ≡ true → get_or after.table.now i 0 ≡ 1) → Entered n after (i + 1)
-entered_more n m after i x keeps here =
-    below_more (λ k. n.entry (k / n.places) (k % n.places) ≡ true → get_or after.table.now k 0 ≡ 1) i (λ k h e. keeps k (x k h e)) here
+pub entered_more : {n : Net} (ok : Conditions n) (m after : Marks) (c d : ℕ) → d < n.places → Entered n m (position n c d) → ((k : ℕ) → get_or m.table.now k 0 ≡ 1 → get_or after.table.now k 0 ≡ 1) → (n.entry c d ≡ true → get_or after.table.now (position n c d) 0 ≡ 1) → Entered n after (position n c (d + 1))
+entered_more {n} ok m after c d l x keeps here = λ k h. all k (omega arith)
+  where
+    all : (k : ℕ) → k < position n c d + 1 → n.entry (k / n.places) (k % n.places) ≡ true → get_or after.table.now k 0 ≡ 1
+    all =
+        below_more (λ k. n.entry (k / n.places) (k % n.places) ≡ true → get_or after.table.now k 0 ≡ 1) (position n c d) (λ k h e. keeps k (x k h e))
+        (rw (channel_of n ok c d l, place_of n ok c d l) here)
 
--- the pair that a way leads to
-module _ {n : Net} (ok : Conditions n) (c : ℕ) {d k h : ℕ} (l : k < length (n.ways c d)) (way : h ≡ get_or (n.ways c d) k 0) (place : d < n.places) where
-  pub way_below : position n h d < pairs n
-  way_below = position_below n ok h d (rw way (ok.ways_inside c d k l)) place
-
-  pub way_allowed : Allowed n c d → n.home c d ≡ false → Allowed n (position n h d / n.places) (position n h d % n.places)
-  way_allowed a away = rw (channel_of n ok h d place, place_of n ok h d place) (moves a away (k, l, way))
-
--- the way that a loop over ways is given
-pub way_turn : {S : Type 0} (rest : S → List ℕ) {s t : S} (u : S) (ways : List ℕ) {h : ℕ} → rest s ≡ ways → (ys : List ℕ) → Yields (YieldsFirst rest) s ys t → rest t ≡ h ∷ rest u → (length ys < length ways) × (h ≡ get_or ways (length ys) 0)
-way_turn rest {s} {t} u ways {h} start ys y step =
-    let road = YieldsList-from_first (λ (x : ℕ). x) rest ways start in
-    let turn = YieldsList-turn road ys t y (Some h) u h refl step in
-    (turn.0, turn.1 ∙ get_or_default ways (length ys) h 0 turn.0)
+-- the pair that the way leads to that a loop over ways is given
+pub way_allowed : {n : Net} {c d h : ℕ} → Allowed n c d → n.home c d ≡ false → {all left : List ℕ} (rest : List ℕ) → all ≡ n.ways c d → (ys : List ℕ) → Yields (YieldsFirst (λ (ways : List ℕ). ways)) all ys left → left ≡ h ∷ rest → Allowed n h d
+way_allowed {n} {c} {d} {h} a away {all} {left} rest start ys y step =
+    let road = YieldsList-from_first (λ (x : ℕ). x) (λ (ways : List ℕ). ways) (n.ways c d) start in
+    let turn = YieldsList-turn road ys left y (Some h) rest h refl step in
+    moves a away (length ys, turn.0, turn.1 ∙ get_or_default (n.ways c d) (length ys) h 0 turn.0)
 
 pub all_marked_more : (n : Net) (m after : Marks) (hs : List ℕ) (h d : ℕ) → AllMarked n m hs d → Grown m after → get_or after.table.now (position n h d) 0 ≡ 1 → AllMarked n after (hs ++ h ∷ []) d
 all_marked_more n m after hs h d x g here =
@@ -121,20 +155,23 @@ all_marked_more n m after hs h d x g here =
     here
 
 -- the first pair of the queue that was not taken
-module _ {n : Net} {m after : Marks} (l : m.head < m.end) (x : Followed n m) (s : Sound n after) (g : Grown (record m { head = m.head + 1 }) after) (p : Passed n after (get_or m.queue.now m.head 0)) where
+module _ {n : Net} {m next after : Marks} {i : ℕ} (taken : Taken m next (Some i)) (x : Followed n m) (s : Sound n after) (g : Grown next after) (p : Passed n after i) where
+  keeps : (k : ℕ) → get_or m.table.now k 0 ≡ 1 → get_or after.table.now k 0 ≡ 1
+  keeps k h = g.keeps k (rw taken.2 h)
+
   keeps_passed : (i : ℕ) → Passed n m i → Passed n after i
   keeps_passed i y away =
-      All-weaker (λ c. get_or m.table.now (position n c (i % n.places)) 0 ≡ 1) (λ c. get_or after.table.now (position n c (i % n.places)) 0 ≡ 1) (λ c k. g.keeps (position n c (i % n.places)) k) (n.ways (i / n.places) (i % n.places)) (y away)
+      All-weaker (λ c. get_or m.table.now (position n c (i % n.places)) 0 ≡ 1) (λ c. get_or after.table.now (position n c (i % n.places)) 0 ≡ 1) (λ c k. keeps (position n c (i % n.places)) k) (n.ways (i / n.places) (i % n.places)) (y away)
 
   passed : (j : ℕ) → j < m.head + 1 → Dec (j ≡ m.head) → Passed n after (get_or m.queue.now j 0)
-  passed j h (yes e) = rw e p
+  passed j h (yes e) = rw (e, ← taken.1) p
   passed j h (no ne) = keeps_passed (get_or m.queue.now j 0) (x.passed j (omega arith))
 
   pub followed_more : Followed n after
   followed_more = record {
     sound = s;
-    entered = λ i k e. g.keeps i (x.entered i k e);
-    passed = λ j h. let k : j < m.head + 1 = omega (arith, g.head) in rw (g.front j (omega arith)) (passed j k (ℕ_discrete j m.head));
+    entered = λ i k e. keeps i (x.entered i k e);
+    passed = λ j h. let k : j < m.head + 1 = omega (arith, g.head, taken.5) in rw (g.front j (rw (taken.4) (omega (arith, taken.0))), ap (λ (q : MutBor (List ℕ)). q.now) taken.3) (passed j k (ℕ_discrete j m.head));
   }
 
 -- all are taken: the marked pairs are the allowed pairs
@@ -145,31 +182,23 @@ module _ {n : Net} (ok : Conditions n) {m : Marks} (x : Followed n m) (all : m.h
       x.entered (position n c d) (position_below n ok c d i.channel i.place) (rw (channel_of n ok c d i.place, place_of n ok c d i.place) e)
   allowed_marked {c = h} {d} (moves {c = c} a away w) =
       let i = allowed_inside n ok a in
-      let y = x.sound.queued.held (position n c d) (allowed_marked a) in
+      ∥∥₁_elim (m.queued.held (position n c d) (allowed_marked a)) (ℕ_set _ _) (λ (y : (j : ℕ) × (j < m.end) × (get_or m.queue.now j 0 ≡ position n c d)).
       let z = rw (y.2, channel_of n ok c d i.place, place_of n ok c d i.place) at (x.passed y.0 (omega (arith, y.1))) in
-      rw w.2 (All-get_or (λ b. get_or m.table.now (position n b d) 0 ≡ 1) (n.ways c d) w.0 0 w.1 (z away))
+      rw w.2 (All-get_or (λ b. get_or m.table.now (position n b d) 0 ≡ 1) (n.ways c d) w.0 0 w.1 (z away)))
 
   pub tells : (c d : ℕ) → c < n.channels → d < n.places → Tells (Allowed n c d) (get_or m.table.now (position n c d) 0)
-  tells c d l k = go (x.sound.queued.binary (position n c d))
+  tells c d l k = go (ℕ_discrete (get_or m.table.now (position n c d) 0) 1)
     where
-      go : (get_or m.table.now (position n c d) 0 ≡ 0) ⊎ (get_or m.table.now (position n c d) 0 ≡ 1) → Tells (Allowed n c d) (get_or m.table.now (position n c d) 0)
-      go (inl z) = inr ((λ a. let o = allowed_marked a in omega arith), z)
-      go (inr o) = inl (rw (channel_of n ok c d k, place_of n ok c d k) at (x.sound.allowed (position n c d) o), o)
+      go : Dec (get_or m.table.now (position n c d) 0 ≡ 1) → Tells (Allowed n c d) (get_or m.table.now (position n c d) 0)
+      go (no z) = let b = m.queued.binary (position n c d) in inr ((λ a. z (allowed_marked a)), omega arith)
+      go (yes o) = inl (rw (channel_of n ok c d k, place_of n ok c d k) at (x.sound.allowed (position n c d) o), o)
 
   pub traced : (before t : List ℕ) → length before ≡ pairs n → t ≡ m.table.now → Traced n before t m.end
   traced before t b e = record {
     bytes = λ c d l k. rw e (tells c d l k);
     beyond = λ i l. get_or_past t i 0 (omega (arith, ap length e, x.sound.bytes)) ∙ sym (get_or_past before i 0 (omega arith));
-    count = sym (ap (count_by (λ byte. eqb byte 1)) (take_all (pairs n) t (omega (arith, ap length e, x.sound.bytes)) ∙ e) ∙ x.sound.queued.count);
+    count = sym (ap (count_by (λ byte. eqb byte 1)) (take_all (pairs n) t (omega (arith, ap length e, x.sound.bytes)) ∙ e) ∙ m.queued.count);
   }
-
--- the table is written back in front of what lies beyond the pairs
-pub traced_part : (n : Net) (before part t : List ℕ) (k ones : ℕ) → k ≡ pairs n → length t ≡ pairs n → Traced n part t ones → Traced n before (t ++ drop k before) ones
-traced_part n before part t k ones e b x = record {
-  bytes = λ c d l h. subst (λ (byte : ℕ). Tells (Allowed n c d) byte) (sym (get_or_append_left t (drop k before) 0 (position n c d) (omega (arith, mul-add-lt c n.places d n.channels l h)))) (x.bytes c d l h);
-  beyond = λ i l. get_or-append_right t (drop k before) (pairs n) i 0 b l ∙ (get_or-drop k before (i - pairs n) 0 ∙ ap (λ j. get_or before j 0) (omega arith));
-  count = x.count ∙ ap (count_by (λ byte. eqb byte 1)) (take_all (pairs n) t (omega arith) ∙ sym (take_at t (drop k before) (pairs n) b));
-}
 
 pub rooms_suffice : (n : Net) (table : List ℕ) (work : ℕ) → pairs n ≤ length table → pairs n ≤ work → first_short (rooms n table work) ≡ None
 rooms_suffice n table work l m = rw (le-ltb (length table) (pairs n) l, le-ltb work (pairs n) m) refl

@@ -1,18 +1,8 @@
 -- The table and the queue while a network is traced. A pair is marked if its byte is 1.
-use Rattle.std.specs.Prelude.{◌≡◌, ℕ, ◌+◌, ◌/◌, ◌%◌, ◌^◌, ◌<◌, ◌≤◌, true, false, ◌⊎◌, List, Option, Some, None, All, length, count_by, nat_eq, slice_index}
+use Rattle.std.specs.Prelude.{◌≡◌, ℕ, ◌+◌, ◌/◌, ◌%◌, ◌<◌, ◌≤◌, true, false, List, Option, Some, None, All, length, slice_index}
 use Rattle.networks.specs.Allowed.{Allowed, pairs, position}
 use Rattle.networks.specs.Nets.{Net}
 use Rattle.tracing.specs.declared.Marks.{Marks}
-
--- The marked pairs are `end`, and the first `end` words of the queue are their positions. The first `head` of them were taken.
-pub record Queued (m : Marks) : Type 0 where
-  pub few : length m.table.now < 2 ^ 32
-  pub words : length m.queue.now ≡ length m.table.now
-  pub binary : (i : ℕ) → (slice_index m.table.now i ≡ 0) ⊎ (slice_index m.table.now i ≡ 1)
-  pub count : count_by (λ byte. nat_eq byte 1) m.table.now ≡ m.end
-  pub marked : (j : ℕ) → j < m.end → slice_index m.table.now (slice_index m.queue.now j) ≡ 1
-  pub held : (i : ℕ) → slice_index m.table.now i ≡ 1 → (j : ℕ) × (j < m.end) × (slice_index m.queue.now j ≡ i)
-  pub reached : m.head ≤ m.end
 
 -- The table and the queue are those that were lent before.
 abbrev pub SameLent : Marks → Marks → Type 0
@@ -31,11 +21,10 @@ pub record Grown (before after : Marks) : Type 0 where
 abbrev pub Taken : Marks → Marks → Option ℕ → Type 0
 Taken before after None = (before.head ≡ before.end) × (after ≡ before)
 Taken before after (Some i) =
-    (before.head < before.end) × (i ≡ slice_index before.queue.now before.head) × (after ≡ record before { head = before.head + 1 })
+    (before.head < before.end) × (i ≡ slice_index before.queue.now before.head) × (after.table ≡ before.table) × (after.queue ≡ before.queue) × (after.end ≡ before.end) × (after.head ≡ before.head + 1)
 
 -- There is a byte for each pair, and each marked pair is allowed.
 pub record Sound (n : Net) (m : Marks) : Type 0 where
-  pub queued : Queued m
   pub bytes : length m.table.now ≡ pairs n
   pub allowed : (i : ℕ) → slice_index m.table.now i ≡ 1 → Allowed n (i / n.places) (i % n.places)
 

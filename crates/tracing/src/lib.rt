@@ -5,7 +5,7 @@
 ghost use Rattle.std.specs.Prelude.{◌≡◌, ◌/◌, ◌%◌, ◌^◌, ◌<◌, false, length, slice_set};
 ghost use Rattle.networks.specs.Allowed.{Allowed, pairs};
 ghost use Rattle.networks.specs.Cleared.{AllZero};
-ghost use Rattle.tracing.specs.Queues.{Queued, SameLent, Grown, Taken, Sound, AllMarked, Followed};
+ghost use Rattle.tracing.specs.Queue.{Queued};
 ghost use Rattle.tracing.specs.Traces.{Traced, Traces};
 
 use networks::Network;
@@ -20,6 +20,7 @@ fn pair_at(position: usize, places: u16) -> Pair
     ensures channel { result.channel ≡ position / places }
     ensures place { result.place ≡ position % places }
 {
+    // both fit by what is required, so there is no error that a checked conversion could answer
     let places = usize::from(places);
     Pair {
         channel: (position / places) as u16,
@@ -38,27 +39,30 @@ struct Marks<'a> {
     end: usize,
     // how many of these were taken
     head: usize,
+    // the queue holds the marked pairs and no other
+    ghost queued: { Queued table.now queue.now end head },
 }
 
 impl Marks<'_> {
+    ghost use Rattle.tracing.specs.Queues.{SameLent, Grown, Taken, Sound, AllMarked, Followed};
+
     // Marks the pair at a position and queues it, unless it is marked.
     fn mark(&mut self, position: usize)
-        requires queued { Queued self.old }
         requires inside { position < length self.old.table.now }
-        ensures queued { Queued self.new }
         ensures marked { self.new.table.now ≡ slice_set self.old.table.now position 1 }
         ensures grown { Grown self.old self.new }
     {
         if self.table[position] == 0 {
-            self.table[position] = 1;
+            // it fits: a table has fewer than 2^32 bytes
             self.queue[self.end] = position as u32;
+            // the byte comes after the word, since each write through a reference has to keep `queued`
+            self.table[position] = 1;
             self.end += 1;
         }
     }
 
     // Takes the first queued pair that was not taken before. Answers its position.
     fn take_next(&mut self) -> Option<usize>
-        requires { Queued self.old }
         ensures { Taken self.old self.new result }
     {
         if self.head == self.end {
@@ -72,17 +76,17 @@ impl Marks<'_> {
     // Marks the entries and no other pair.
     fn enter<N: Network>(&mut self, net: &N)
         requires bytes { length self.old.table.now ≡ pairs (N.meaning net.now) }
-        requires words { length self.old.queue.now ≡ pairs (N.meaning net.now) }
         requires end { self.old.end ≡ 0 }
-        requires head { self.old.head ≡ 0 }
         ensures lent { SameLent self.old self.new }
         ensures followed { Followed (N.meaning net.now) self.new }
     {
         let places = net.places();
-        self.table.fill(0);
-        for position in 0..self.table.len() {
-            if net.entry(pair_at(position, places)) {
-                self.mark(position);
+        for channel in 0..net.channels() {
+            for place in 0..places {
+                let pair = Pair { channel, place };
+                if net.entry(pair) {
+                    self.mark(pair.position(places));
+                }
             }
         }
     }
@@ -90,7 +94,6 @@ impl Marks<'_> {
     // Marks the pairs that the ways of an allowed pair lead to.
     fn follow_ways<N: Network>(&mut self, net: &N, pair: Pair)
         requires sound { Sound (N.meaning net.now) self.old }
-        requires place { pair.place < (N.meaning net.now).places }
         requires allowed { Allowed (N.meaning net.now) pair.channel pair.place }
         requires away { (N.meaning net.now).home pair.channel pair.place ≡ false }
         ensures sound { Sound (N.meaning net.now) self.new }
@@ -126,6 +129,7 @@ fn mark_allowed<N: Network>(net: &N, table: &mut [u8], queue: &mut [u32]) -> usi
     requires words { length queue.old ≡ pairs (N.meaning net.now) }
     ensures { Traced (N.meaning net.now) table.old table.new result }
 {
+    table.fill(0);
     let mut marks = Marks {
         table,
         queue,

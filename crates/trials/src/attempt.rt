@@ -13,12 +13,6 @@ const BYTE: u8 = 7;
 
 const WORD: u32 = 9;
 
-fn all_zero(words: &[u32]) -> bool
-    ensures { T result → AllZero words.now }
-{
-    words.iter().all(|word| *word == 0)
-}
-
 /// What tracing a network answered and what it left in its buffers.
 #[derive(Drop)]
 pub struct Attempt {
@@ -49,7 +43,7 @@ impl Attempt {
     fn cleared(&self) -> bool
         ensures { T result → AllZero self.now.work.items }
     {
-        all_zero(self.work.as_slice())
+        self.work.iter().all(|word| *word == 0)
     }
 
     // Whether the bytes of the table from a position on are as they were.

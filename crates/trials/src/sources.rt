@@ -130,8 +130,12 @@ impl Common {
 
 // All records but the one at a position.
 fn without(heap: Global, records: &[Record], left_out: usize) -> Result<Vec<Record>, AllocError> {
-    let others = records.iter().enumerate().filter(|r| r.0 != left_out);
-    others.map(|r| *r.1).collect(heap)
+    records
+        .iter()
+        .enumerate()
+        .filter(|(position, _)| *position != left_out)
+        .map(|(_, record)| *record)
+        .collect(heap)
 }
 
 // Tables that lack one record of a Spidergon.
@@ -147,6 +151,7 @@ impl Lacking {
         let ring = Spidergon::new(size)?;
         let records = records_of(heap, &ring)?;
         let mut unlike = 0usize;
+        // a loop, since its body asks for memory and can fail
         for position in 0..records.len() {
             let rest = without(heap, records.as_slice(), position)?;
             let table = Table::new(heap, size_of(&ring), rest.as_slice())?;
@@ -185,16 +190,12 @@ pub(super) fn tell_ways(rt: &HostRuntime) -> anyhow::Result<()> {
 /// Compares Spidergons with the tables of their records.
 pub(super) fn compare(rt: &HostRuntime) -> anyhow::Result<()> {
     for size in 1..=LARGEST {
-        let common = Common::new(rt.alloc(), size)?;
-        let records = common.records;
-        let allowed = common.allowed;
+        let Common { records, allowed } = Common::new(rt.alloc(), size)?;
         println!(rt;
             "spidergon {size}: {records} records, a table of them gives the same answers, {allowed} allowed pairs"
         )?;
     }
-    let lacking = Lacking::new(rt.alloc(), SMALL)?;
-    let tables = lacking.tables;
-    let unlike = lacking.unlike;
+    let Lacking { tables, unlike } = Lacking::new(rt.alloc(), SMALL)?;
     println!(rt;
         "spidergon {SMALL}: {unlike} of {tables} tables that lack one of its records give other answers"
     )?;

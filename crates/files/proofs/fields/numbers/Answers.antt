@@ -1,7 +1,8 @@
-use Rattle.std.proofs.Common.{length, refl, ap, sym, ◌∙◌, inl, inr}
+use Rattle.std.proofs.Common.{length, refl, ap, sym, ◌∙◌, inl, inr, arith}
 use Rattle.std.proofs.lemmas.List.{length-replicate}
 use Rattle.std.proofs.lemmas.Result.{err_from_is_err_and}
 use Rattle.lines.proofs.Counts.{fields_counted}
+use Rattle.lines.proofs.Laws.{few_left}
 use Rattle.files.proofs.FirstNumbers.{no_numbers, within, one_number_more, no_number, all_numbers}
 use Rattle.files.proofs.fields.numbers.Goals as goal
 use Rattle.files.proofs.fields.numbers.Goals.{then-not-line-via-then-not-line, then-not-line-via-else-not-line+then-count}
@@ -42,3 +43,6 @@ bounds-numbers-at g c =
 
 pub returns : goal.returns
 returns g c = all_numbers _ _ _ _ _ _ c.loop-at.invariant _ c.if-not-line.false c.requires c.in-None.ensures.steps.0.0.0
+
+pub count-requires-clause-fits : goal.count-requires-clause-fits
+count-requires-clause-fits g c = inl (omega (arith, c.after_first.ensures.few, few_left (λ x. x) c.after_first.result.rest))

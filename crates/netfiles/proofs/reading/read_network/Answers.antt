@@ -1,15 +1,8 @@
-use Rattle.std.proofs.Common.{length, refl}
+use Rattle.std.proofs.Common.{refl}
 use Rattle.std.proofs.lemmas.Result.{err_from_is_err_and}
-use Rattle.netfiles.proofs.Readings.{one_reading}
 use Rattle.netfiles.proofs.reading.read_network.Goals as goal
 
 pub returns-in_err-summary-clause-reading : goal.returns-in_err-summary-clause-reading
 returns-in_err-summary-clause-reading c =
     let p = err_from_is_err_and c.from_residual.result c.from_residual.ensures.1 in
     rw (p.1, p.2) (c.in_err-summary.ensures, refl)
-
-pub returns-in_err-summary-clause-one : goal.returns-in_err-summary-clause-one
-returns-in_err-summary-clause-one c = one_reading c.args.file.now (length c.args.list.now)
-
-pub returns-clause-one : goal.returns-clause-one
-returns-clause-one c = one_reading c.args.file.now (length c.args.list.now)

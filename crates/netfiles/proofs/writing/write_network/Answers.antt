@@ -1,18 +1,12 @@
 use Rattle.std.proofs.Common.{refl, arith}
 use Rattle.std.proofs.lemmas.Result.{err_from_is_err_and}
-use Rattle.netfiles.proofs.WrittenLines.{all_small, refused, written}
+use Rattle.netfiles.proofs.WrittenLines.{refused, written}
 use Rattle.netfiles.proofs.writing.write_network.Goals as goal
 
 pub returns-in_err-new : goal.returns-in_err-new
 returns-in_err-new c =
     let p = err_from_is_err_and c.from_residual.result c.from_residual.ensures.1 in
     rw (p.1, p.2) (refused c.args.size c.args.records.now _ c.in_err-new.field-0.0 c.in_err-new.ensures.makes, refl)
-
-pub text_len-requires-clause-small : goal.text_len-requires-clause-small
-text_len-requires-clause-small c = all_small c.args.size c.args.records.now c.in_ok-new.ensures.makes.0
-
-pub write_records-requires-clause-small : goal.write_records-requires-clause-small
-write_records-requires-clause-small c = all_small c.args.size c.args.records.now c.in_ok-new.ensures.makes.0
 
 pub returns : goal.returns
 returns c =

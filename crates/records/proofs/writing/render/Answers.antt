@@ -1,11 +1,7 @@
 use Rattle.std.proofs.Common.{arith}
-use Rattle.records.proofs.Texts.{line_more, line_done}
+use Rattle.records.proofs.Texts.{line_more}
 use Rattle.records.proofs.writing.render.Goals as goal
 
 pub loop-n-preserved : goal.loop-n-preserved
 loop-n-preserved c =
     (line_more c.args.letter c.args.numbers.now c.loop-n.n-index _ _ c.loop-n-test.true c.loop-n.invariant.0 c.push_number.ensures.text, omega arith)
-
-pub returns : goal.returns
-returns c =
-    line_done c.args.letter c.args.numbers.now c.loop-n.n-index _ _ c.loop-n-test.false c.loop-n.invariant.0 c.push-2.ensures.items

@@ -1,21 +1,19 @@
-use Rattle.std.proofs.Common.{◌≡◌, ◌<◌, ◌/◌, ◌%◌, true, length, rules}
+use Rattle.std.proofs.Common.{◌≡◌, true, rules}
 use Rattle.networks.specs.Allowed.{enters}
 use Rattle.tracing.proofs.Queueing.{sound_mark, entered_more}
 use Rattle.tracing.proofs.Marks.enter.Goals as goal
 use Rattle.tracing.proofs.Marks.enter.Goals.{then-entry, else-entry}
 
-pub loop-position-preserved : goal.loop-position-preserved
-loop-position-preserved g c =
+pub loop-place-preserved : goal.loop-place-preserved
+loop-place-preserved g c =
     let n = g.N.Network.meaning c.args.net.now in
-    let i = c.loop-position in
-    let e : c.entry.result ≡ n.entry (i.position / n.places) (i.position % n.places) = search rules in
+    let ok = g.N.Network.conditions c.args.net.now in
+    let i = c.loop-place.invariant in
     elim c.if-entry.branch [
       | then-entry w ↦
-          let m = w.mark.ensures in
-          let l : i.position < length i.self.table.now = search rules in
-          let f : n.entry (i.position / n.places) (i.position % n.places) ≡ true = cc in
-          let s = sound_mark i.invariant.0 i.position l m.queued m.marked m.grown (enters f) in
-          rw w.self-is (s.0, entered_more n i.self w.mark.new.self i.position i.invariant.1 m.grown.keeps (λ _. s.1), search rules, search rules)
+          let e : n.entry c.loop-channel.channel c.loop-place.place ≡ true = search rules in
+          let s = sound_mark ok i.0 (enters e) (search rules) w.mark.ensures.grown in
+          rw w.self-is (s.0, entered_more ok c.loop-place.self w.mark.new.self c.loop-channel.channel c.loop-place.place (search rules) i.1 w.mark.ensures.grown.keeps (λ _. s.1), search rules, search rules)
       | else-entry w ↦
-          rw w.self-is (i.invariant.0, entered_more n i.self i.self i.position i.invariant.1 (λ k h. h) (λ f. absurd (cc)), i.invariant.2, i.invariant.3)
+          rw w.self-is (i.0, entered_more ok c.loop-place.self c.loop-place.self c.loop-channel.channel c.loop-place.place (search rules) i.1 (λ k h. h) (λ f. absurd (cc)), i.2, i.3)
     ]

@@ -1,7 +1,14 @@
 use Rattle.std.proofs.Common.{◌≡◌}
+use Rattle.networks.specs.Allowed.{position}
 use Rattle.tracing.specs.Queues.{Sound, SameLent, Entered}
 use Rattle.tracing.proofs.Marks.enter.Given as goal
 
-abbrev pub invariant-loop-position : goal.invariant-loop-position
-invariant-loop-position g l =
-    Sound (g.N.Network.meaning l.net) l.self × Entered (g.N.Network.meaning l.net) l.self l.position × SameLent l.initial.self l.self × (l.self.head ≡ 0)
+abbrev pub invariant-loop-channel : goal.invariant-loop-channel
+invariant-loop-channel g l =
+    let n = g.N.Network.meaning l.net in
+    Sound n l.self × Entered n l.self (position n l.channel 0) × SameLent l.initial.self l.self × (l.self.head ≡ 0)
+
+abbrev pub invariant-loop-place : goal.invariant-loop-place
+invariant-loop-place g l =
+    let n = g.N.Network.meaning l.net in
+    Sound n l.self × Entered n l.self (position n l.channel l.place) × SameLent l.initial.self l.self × (l.self.head ≡ 0)

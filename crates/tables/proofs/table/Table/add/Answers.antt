@@ -1,6 +1,6 @@
 use Rattle.std.proofs.Common.{refl}
 use Rattle.std.proofs.lemmas.Result.{err_from_is_err_and}
-use Rattle.tables.proofs.Adds.{located, entry_joins, home_joins, way_joins, way_sound, refused_way}
+use Rattle.tables.proofs.Adds.{entry_joins, home_joins, way_joins, refused_way}
 use Rattle.tables.proofs.Misfits.{misplaced}
 use Rattle.tables.proofs.table.Table.add.Goals as goal
 
@@ -16,17 +16,12 @@ returns-then-next-self c =
     (refused_way c.args.self.now c.args.line c.pair_of.ensures c.in-Way.is e.0 e.1 c.if-next-self.true, refl)
 
 pub returns-in-Entry : goal.returns-in-Entry
-returns-in-Entry c = entry_joins c.args.self.now c.args.record _ _ (located c.args.self.now c.args.record c.pair_of.ensures c.in_ok-at.ensures c.index_mut.ensures.value) c.in-Entry.is
+returns-in-Entry c = entry_joins c.args.self.now c.args.record c.pair_of.ensures c.in_ok-at.ensures c.index_mut.ensures.value c.in-Entry.is
 
 pub returns-in-Home : goal.returns-in-Home
-returns-in-Home c = home_joins c.args.self.now c.args.record _ _ (located c.args.self.now c.args.record c.pair_of.ensures c.in_ok-at.ensures c.index_mut-in-Home.ensures.value) c.in-Home.is
+returns-in-Home c = home_joins c.args.self.now c.args.record c.pair_of.ensures c.in_ok-at.ensures c.index_mut-in-Home.ensures.value c.in-Home.is
 
-pub invariant_of-self-in-Way-clause-sound : goal.invariant_of-self-in-Way-clause-sound
-invariant_of-self-in-Way-clause-sound c =
-    let e = rw c.in_ok-self-in-Way.ensures.ok_part at c.with-ways.ensures in
-    way_sound c.args.self.now c.args.record _ _ (located c.args.self.now c.args.record c.pair_of.ensures c.in_ok-at.ensures c.index_mut-in-Way.ensures.value) c.in-Way.is c.if-next-self.false (located c.args.self.now c.args.record c.pair_of.ensures c.in_ok-at.ensures c.index.ensures) e.0 e.1
-
-pub returns-in_ok-self-in-Way : goal.returns-in_ok-self-in-Way
-returns-in_ok-self-in-Way c =
-    let e = rw c.in_ok-self-in-Way.ensures.ok_part at c.with-ways.ensures in
-    way_joins c.args.self.now c.args.record _ _ (located c.args.self.now c.args.record c.pair_of.ensures c.in_ok-at.ensures c.index_mut-in-Way.ensures.value) c.in-Way.is c.if-next-self.false (located c.args.self.now c.args.record c.pair_of.ensures c.in_ok-at.ensures c.index.ensures) e.0 e.1
+pub returns-in_ok-ok_or-in-Way : goal.returns-in_ok-ok_or-in-Way
+returns-in_ok-ok_or-in-Way c =
+    let e = rw c.in_ok-ok_or-in-Way.ensures.ok_part at c.try_push.ensures in
+    rw e.1 (way_joins c.args.self.now c.args.record c.pair_of.ensures c.in_ok-at.ensures c.index_mut-in-Way.ensures.value c.in-Way.is c.if-next-self.false e.0)

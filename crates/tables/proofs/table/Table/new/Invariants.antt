@@ -1,6 +1,5 @@
-use Rattle.std.proofs.Common.{take}
-use Rattle.tables.proofs.ByRecord.{Upto}
+use Rattle.tables.proofs.ByRecord.{Midway}
 use Rattle.tables.proofs.table.Table.new.Given as goal
 
-abbrev pub invariant-loop-position : goal.invariant-loop-position
-invariant-loop-position l = Upto l.initial.table.size (take l.position l.records) l.table
+abbrev pub invariant-loop-line : goal.invariant-loop-line
+invariant-loop-line l = Midway l.fn.size l.records l.line-iterator.b.rest.now l.line-iterator.a.start l.table

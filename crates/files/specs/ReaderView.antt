@@ -3,7 +3,7 @@ use Rattle.std.specs.Prelude.{ℕ, List}
 use Rattle.lines.specs.Pieces.{RawLine}
 
 -- the file, the lines that are still to be read, and how many were passed
-pub record Reading : Type 0 where
+pub record ReaderView : Type 0 where
   pub file : List ℕ
   pub left : List RawLine
   pub passed : ℕ
