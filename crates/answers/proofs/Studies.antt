@@ -1,6 +1,5 @@
 -- What the network file in an input holds, or why it is not taken.
-use Rattle.std.proofs.Common.{◌≡◌, ℕ, ◌≤◌, ◌⊎◌, List, length, take, drop, Ok, Err, Result, refl, ap, ◌∙◌, subst, inl, inr, arith, MatchResult}
-use Rattle.std.proofs.lemmas.Nat.{mul-le}
+use Rattle.std.proofs.Common.{◌≡◌, ℕ, ◌≤◌, ◌⊎◌, List, length, take, drop, Ok, Err, refl, ap, ◌∙◌, subst, inl, inr, arith}
 use Rattle.std.proofs.lemmas.List.{take_at}
 use Rattle.records.specs.declared.Record.{Record}
 use Rattle.files.specs.declared.judging.Summary.{Summary}
@@ -9,27 +8,14 @@ use Rattle.networks.specs.declared.faults.StudyFault.{StudyFault}
 use Rattle.networks.specs.declared.faults.StudyFault.TheVariants.{Table, Short}
 use Rattle.networks.specs.declared.faults.TableFault.{TableFault}
 use Rattle.networks.specs.declared.faults.TableFault.TheVariants.{NoMemory}
-use Rattle.networks.specs.Allowed.{pairs}
 use Rattle.networks.specs.Nets.{Net}
 use Rattle.tables.specs.Drawn.{drawn}
 use Rattle.tables.specs.Makes.{SizeFits, Acceptable, RecordsFault}
 use Rattle.tables.proofs.OneAnswer.{one_fault}
 use Rattle.netfiles.proofs.Readings.{accepted_wanting}
 use Rattle.netfiles.specs.Reading.{Accepted, Refused, Wanting, Reading}
-use Rattle.tracing.specs.Traces.{Traces, AllowedPairs}
-use Rattle.tracing.proofs.Counts.{counts_allowed}
-use Rattle.tracing.proofs.Queueing.{rooms_suffice}
+use Rattle.tracing.specs.Traces.{AllowedPairs}
 use Rattle.answers.specs.Prints.{Fits, Holds, Rejects, refused, large, Starves}
-
--- A small network fits the buffers.
-pub counted : (n : Net) (before : List ℕ) (work : ℕ) (r : Result ℕ StudyFault) (after : List ℕ) → n.channels ≤ 128 → n.places ≤ 32 → length before ≡ 4096 → work ≡ 4096 → length after ≡ length before → Traces n before work r after → MatchResult r (λ k. AllowedPairs n k) (λ f. ⊥)
-counted n before work (Ok k) after c p room words same t = counts_allowed n before after k (omega (arith, mul-le n.channels n.places 128 32 c p)) t.1
-counted n before work (Err f) after c p room words same t =
-    let few : pairs n ≤ 4096 = mul-le n.channels n.places 128 32 c p in
-    let e = rooms_suffice n before work (omega arith) (omega arith) in
-    let d = t.1 in
-    let z : ◌≡◌ {A = ℕ} 0 1 = cc in
-    omega arith
 
 module _ (input : List ℕ) (short : length input ≤ 32768) (before : List Record) (room : length before ≡ 2048) where
   pub unread : (t : TableFault) (after : List Record) → Reading input before (Err t) after → Rejects input (Table t) ⊎ Starves input (Table t)

@@ -1,6 +1,5 @@
 -- The lines of records that make a table, written one behind the other.
 use Rattle.std.proofs.Common.{◌≡◌, ℕ, ◌+◌, ◌<◌, ◌≤◌, ◌⊎◌, List, [], ◌∷◌, length, get_or, take, Ok, Err, Result, sym, refl, ap, subst, inl, inr, arith}
-use Rattle.std.proofs.lemmas.List.{take_all}
 use Rattle.std.proofs.lemmas.List.Elements.{All-from_recursion}
 use Rattle.std.proofs.lemmas.List.Folds.{length-flat_map-take}
 use Rattle.std.specs.List.{AllByRecursion}
@@ -55,9 +54,6 @@ record_written rs i at end old half new r d h small room w =
 pub one_more : (rs : List Record) (i at end next : ℕ) (old half new : List ℕ) (d : Record) → i < length rs → length half ≡ length old → Wrote (record_lines (take i rs)) at old half end → Wrote (record_line (get_or rs i d)) end half new next → Wrote (record_lines (take (i + 1) rs)) at old new next
 one_more rs i at end next old half new d h same w v =
     subst (λ t. Wrote t at old new next) (sym (lines_more rs i d h)) (wrote_then (record_lines (take i rs)) (record_line (get_or rs i d)) at end next old half new w same v)
-
-pub all_written : (rs : List Record) (i at end : ℕ) (old new : List ℕ) → length rs ≤ i → Wrote (record_lines (take i rs)) at old new end → Wrote (record_lines rs) at old new end
-all_written rs i at end old new h w = rw (take_all i rs h) at w
 
 -- records that make no table
 pub refused : (s : Size) (rs : List Record) (room : ℕ) (t : TableFault) → RecordsFault s rs t ⊎ (SizeFits s × (t ≡ NoMemory)) → Unwritten s rs room (Table t)

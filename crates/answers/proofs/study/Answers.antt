@@ -19,9 +19,6 @@ returns-in_err-table c =
     let p = err_from_is_err_and c.from_residual-in_err-table.result c.from_residual-in_err-table.ensures.1 in
     rw (p.1, p.2) (unmade c.args.input.now c.in_ok-check.ensures _ refl _ _ c.in_ok-summary.ensures.reading _ c.in_err-table.ensures.makes)
 
-pub returns-in_err-allowed : goal.returns-in_err-allowed
-returns-in_err-allowed c = absurd c.in_err-allowed.ensures
-
 pub returns : goal.returns
 returns c =
     held c.args.input.now c.in_ok-check.ensures _ refl _ _ c.in_ok-summary.ensures.reading _ _ c.in_ok-check_size.ensures c.in_ok-table.ensures.makes.1 c.in_ok-allowed.ensures

@@ -3,7 +3,7 @@ use Rattle.std.proofs.lemmas.List.{length-replicate}
 use Rattle.std.proofs.lemmas.Result.{err_from_is_err_and}
 use Rattle.lines.proofs.Counts.{fields_counted}
 use Rattle.lines.proofs.Laws.{few_left}
-use Rattle.files.proofs.FirstNumbers.{no_numbers, within, one_number_more, no_number, all_numbers}
+use Rattle.files.proofs.FirstNumbers.{no_numbers, one_number_more, no_number}
 use Rattle.files.proofs.fields.numbers.Goals as goal
 use Rattle.files.proofs.fields.numbers.Goals.{then-not-line-via-then-not-line, then-not-line-via-else-not-line+then-count}
 
@@ -35,14 +35,6 @@ pub loop-at-preserved : goal.loop-at-preserved
 loop-at-preserved g c =
     let s = c.in-Some.ensures.steps in
     rw (s.1, s.2, s.0.1.1) (one_number_more _ _ _ _ _ _ c.loop-at.invariant _ _ _ _ s.0.0 c.in_ok-numbers.ensures s.0.1.0)
-
-pub bounds-numbers-at : goal.bounds-numbers-at
-bounds-numbers-at g c =
-    let s = c.in-Some.ensures.steps in
-    rw s.1 (within _ _ _ _ _ _ c.loop-at.invariant _ _ s.0.0)
-
-pub returns : goal.returns
-returns g c = all_numbers _ _ _ _ _ _ c.loop-at.invariant _ c.if-not-line.false c.requires c.in-None.ensures.steps.0.0.0
 
 pub count-requires-clause-fits : goal.count-requires-clause-fits
 count-requires-clause-fits g c = inl (omega (arith, c.after_first.ensures.few, few_left (λ x. x) c.after_first.result.rest))

@@ -1,10 +1,6 @@
 use Rattle.std.proofs.Common.{arith}
-use Rattle.records.proofs.Texts.{wrote_none}
-use Rattle.netfiles.proofs.WrittenLines.{record_written, one_more, all_written}
+use Rattle.netfiles.proofs.WrittenLines.{record_written, one_more}
 use Rattle.netfiles.proofs.writing.write_records.Goals as goal
-
-pub loop-record-init : goal.loop-record-init
-loop-record-init c = wrote_none c.args.at c.args.file.now (omega (arith, c.requires.room))
 
 pub unwrap-end-requires : goal.unwrap-end-requires
 unwrap-end-requires c =
@@ -14,6 +10,3 @@ pub loop-record-preserved : goal.loop-record-preserved
 loop-record-preserved c =
     let w = rw c.unwrap-end.ensures at c.write.ensures in
     one_more c.args.records.now c.loop-record.record-index c.args.at c.loop-record.end c.unwrap-end.result c.args.file.now c.loop-record.file c.write.new.out _ c.loop-record-test.true c.loop-record.auto.file c.loop-record.invariant w.1
-
-pub returns : goal.returns
-returns c = all_written c.args.records.now c.loop-record.record-index c.args.at c.loop-record.end _ _ c.loop-record-test.false c.loop-record.invariant
