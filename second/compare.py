@@ -12,15 +12,15 @@ sys.dont_write_bytecode = True
 from files import generate
 from netcheck import answer
 
-KINDS = ["accepted"] + [f"fault {number}" for number in (10, 11, 12, 13, 14, 15, 16, 17, 18, 20)]
+KINDS = ["verdict free", "verdict blocked"] + [f"fault {number}" for number in (10, 11, 12, 13, 14, 15, 16, 17, 18, 20)]
 FULL_RUN = 2000
 SECONDS = 60
 
 
-def kind_of(line):
-    """Accepted, or the fault number, of an answer."""
-    fields = line.split()
-    return "accepted" if fields[0] == b"read" else "fault " + fields[2].decode()
+def kind_of(text):
+    """The verdict, or the fault number, of an answer."""
+    first, second, third = text.split()[:3]
+    return b" ".join([first, second if first == b"verdict" else third]).decode()
 
 
 def too_slow(*_):

@@ -228,8 +228,62 @@ def eight_ways(rng):
     return channels, places, records
 
 
+def descents(rng):
+    """Each pair has a way to a lower channel, among others that may lead anywhere. Here and there that way is missing."""
+    channels, places = rng.randint(2, 40), rng.randint(1, 6)
+    reach, missing = rng.choice([1, 3, channels]), rng.choice([0, 0, 0.02, 0.1])
+    records = []
+    for place in range(places):
+        records += [entry(position(rng, channels), place) for _ in range(rng.randint(1, 4))]
+        records += [home(0, place)] + [home(rng.randrange(channels), place)] * rng.randint(0, 1)
+        for channel in range(1, channels):
+            nexts = [channel - rng.randint(1, min(channel, reach))] * (rng.random() >= missing)
+            nexts += [rng.randrange(channels) for _ in range(rng.choice([0, 0, 1, 2]))]
+            rng.shuffle(nexts)
+            records += [way(channel, place, next_channel) for next_channel in nexts]
+    return channels, places, records
+
+
+def double_rings(rng):
+    """A ring of switches whose links have two channels: the second is for packets that have passed switch 0, or for none."""
+    switches, second = rng.randint(1, 8), rng.random() < 0.6
+    records = []
+    for place in range(switches):
+        for switch in range(switches):
+            local, first, other = switch, switches + switch, 2 * switches + switch
+            after = (switch + 1) % switches
+            records += [entry(local, place), way(local, place, first) if switch != place else home(local, place)]
+            if after == place:
+                records += [home(first, place), home(other, place)]
+            else:
+                passed = second and after == 0
+                records += [way(first, place, (2 if passed else 1) * switches + after), way(other, place, 2 * switches + after)]
+    return 3 * switches, switches, records
+
+
+def mesh(rng):
+    """A mesh of switches with a channel for each link and direction: shortest routes by one rule, or by several ways."""
+    width, height = rng.randint(1, 4), rng.randint(1, 4)
+    switches = [(x, y) for x in range(width) for y in range(height)]
+    links = [((x, y), end) for x, y in switches for end in [(x + 1, y), (x - 1, y), (x, y + 1), (x, y - 1)] if end in switches]
+    channels = [(switch, switch) for switch in switches] + links
+    rule = rng.choice(["x first", "west first", "any", "one of them"])
+    records = []
+    for place, (to_x, to_y) in enumerate(switches):
+        records += [entry(local, place) for local in range(len(switches))]
+        for channel, (_, (x, y)) in enumerate(channels):
+            ends = [(x + (to_x > x) - (to_x < x), y)] * (to_x != x) + [(x, y + (to_y > y) - (to_y < y))] * (to_y != y)
+            if rule == "x first" or rule == "west first" and to_x < x:
+                ends = ends[:1]
+            elif rule == "one of them" and ends:
+                ends = [rng.choice(ends)]
+            records += [way(channel, place, channels.index(((x, y), end))) for end in ends] or [home(channel, place)]
+    return len(channels), len(switches), records
+
+
 SHAPES = [
     ring, crossings, chains, walks, walks, scattered, scattered, dense, homes_with_ways, self_loops, eight_ways, eight_ways,
+    descents, descents, descents, double_rings, mesh, mesh,
 ]
 
 

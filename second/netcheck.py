@@ -7,7 +7,7 @@ import argparse
 import os
 import re
 import sys
-from collections import Counter
+from collections import Counter, defaultdict
 
 # The limits of network files.
 MOST_CHANNELS = 1024
@@ -109,25 +109,76 @@ def judge(data: bytes):
     return None
 
 
-def allowed_pairs(records):
-    """The allowed pairs of a network, each a channel and a place."""
-    allowed = {numbers for letter, numbers in records if letter == b"e"}
-    home = {numbers for letter, numbers in records if letter == b"h"}
-    ways = [numbers for letter, numbers in records if letter == b"w"]
+def allowed_pairs(entries, homes, ways):
+    """The allowed pairs, each a channel and a place."""
+    allowed = set(entries)
     while True:
-        reached = {(next_channel, place) for channel, place, next_channel in ways
-                   if (channel, place) in allowed and (channel, place) not in home}
+        reached = {(way, place) for channel, place in allowed - homes for way in ways[channel, place]}
         if reached <= allowed:
             return allowed
         allowed |= reached
+
+
+def needs_of(channels, records):
+    """For each channel its needs: by place, the ways of each allowed pair that is not home."""
+    entries = {numbers for letter, numbers in records if letter == b"e"}
+    homes = {numbers for letter, numbers in records if letter == b"h"}
+    ways = defaultdict(set)
+    for letter, numbers in records:
+        if letter == b"w":
+            channel, place, next_channel = numbers
+            ways[channel, place].add(next_channel)
+    needs = [{} for _ in range(channels)]
+    for channel, place in allowed_pairs(entries, homes, ways) - homes:
+        needs[channel][place] = ways[channel, place]
+    return needs
+
+
+def held_channels(needs):
+    """The greatest held set: all channels, less those that have no need whose ways all lie in what is left."""
+    held = set(range(len(needs)))
+    while True:
+        kept = {channel for channel in held if any(ways <= held for ways in needs[channel].values())}
+        if kept == held:
+            return held
+        held = kept
+
+
+def numbers_by(needs, number):
+    """What the equation makes of numbers of the channels that are not held."""
+    return {channel: max((1 + min(number[way] for way in ways if way in number) for ways in needs[channel].values()), default=0)
+            for channel in number}
+
+
+def channel_numbers(needs, held):
+    """The numbers of the channels that are not held: 0 for each, raised until the equation holds of all."""
+    number = {channel: 0 for channel in range(len(needs)) if channel not in held}
+    while number != (raised := numbers_by(needs, number)):
+        number = raised
+    return number
 
 
 def fault(layer, number, line, field):
     return b"fault\t%s\t%d\t%d\t%d\n" % (layer, number, line, field)
 
 
+def verdict(needs):
+    """The lines for an accepted file, by the needs of its channels."""
+    held = held_channels(needs)
+    number = channel_numbers(needs, held)
+    word = b"blocked" if held else b"free"
+    lines = [b"verdict\t%s\t%d\t%d\n" % (word, max(number.values(), default=0), len(held))]
+    for channel, ways_by_place in enumerate(needs):
+        if channel in held:
+            place = min(place for place, ways in ways_by_place.items() if ways <= held)
+            lines.append(b"c\t%d\t-\t%d\n" % (channel, place))
+        else:
+            lines.append(b"c\t%d\t%d\t-\n" % (channel, number[channel]))
+    return b"".join(lines)
+
+
 def answer(data: bytes) -> bytes:
-    """The line that netcheck prints."""
+    """What netcheck prints."""
     if len(data) > LIMIT:
         return fault(b"study", 20, 0, 5)
     found = judge(data)
@@ -137,7 +188,7 @@ def answer(data: bytes) -> bytes:
     channels, places = size[1]
     if channels > CHANNEL_LIMIT or places > PLACE_LIMIT:
         return fault(b"study", 20, 0, 5)
-    return b"read\t%d\t%d\t%d\t%d\n" % (channels, places, len(records), len(allowed_pairs(records)))
+    return verdict(needs_of(channels, records))
 
 
 def main():

@@ -37,7 +37,7 @@ def main():
     networks = sum(judge(file.read_bytes()) is None for file in files)
     outputs = {
         "args": b"".join(name.encode("ascii") + b"\n" for name in answers),
-        "stdout": b"".join(name.encode("ascii") + b": " + line for name, line in answers.items())
+        "stdout": b"".join(name.encode("ascii") + b": " + text for name, text in answers.items())
         + b"".join(b"%d %s written anew: %d the same, %d refused for want of a byte\n" % (count, what, count, count)
                    for count, what in ((texts, b"texts"), (networks, b"networks"))),
     }

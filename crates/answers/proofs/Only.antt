@@ -1,39 +1,52 @@
 -- What is printed for an input is the only text that may be.
-use Rattle.std.proofs.Common.{◌≡◌, ℕ, ◌⊎◌, List, length, sym, ap, ◌∙◌, subst, inl, inr, arith}
+use Rattle.std.proofs.Common.{◌≡◌, ℕ, zero, suc, ◌<◌, ◌⊎◌, List, ◌++◌, slice_index, refl, sym, ap, ◌∙◌, subst, inl, inr, arith}
 use Rattle.networks.specs.declared.faults.StudyFault.{StudyFault}
 use Rattle.networks.specs.declared.faults.StudyFault.TheVariants.{Table}
 use Rattle.networks.specs.Faults.{study_parts}
-use Rattle.networks.specs.Nets.{Net}
+use Rattle.networks.specs.Nets.{Net, Conditions}
 use Rattle.tables.specs.Drawn.{drawn}
 use Rattle.tables.proofs.Limits.{drawn_conditions}
 use Rattle.netfiles.proofs.Readings.{one_reading}
-use Rattle.tracing.specs.Traces.{AllowedPairs}
-use Rattle.tracing.proofs.Counts.{allowed_one}
-use Rattle.answers.specs.declared.Contents.{Contents}
-use Rattle.answers.specs.Prints.{fault_line, read_line, Fits, Holds, Rejects, long, refused, large, Prints, holds, rejects, Starves, Answered}
+use Rattle.loads.specs.Loads.{packet}
+use Rattle.loads.specs.declared.LoadRecord.{LoadRecord}
+use Rattle.loads.proofs.Single.{one_check}
+use Rattle.answers.specs.declared.Findings.{Findings}
+use Rattle.answers.specs.Prints.{fault_line, verdict_line, verdict_text, channel_line, channel_lines, Fits, Finds, Holds, Rejects, long, refused, large, Prints, holds, rejects, Starves, Answered}
+
+-- the lines of channels with the same numbers and packets
+lines_same : (ns ms : List ℕ) (ls ks : List LoadRecord) (n : ℕ) → ((c : ℕ) → c < n → slice_index ns c ≡ slice_index ms c) → ((c : ℕ) → c < n → packet ls c ≡ packet ks c) → channel_lines ns ls n ≡ channel_lines ms ks n
+unfolding channel_lines
+lines_same ns ms ls ks zero numbers packets = refl
+lines_same ns ms ls ks (suc c) numbers packets =
+    let before = lines_same ns ms ls ks c (λ i l. numbers i (omega arith)) (λ i l. packets i (omega arith)) in
+    let w = numbers c (omega arith) in
+    let p = packets c (omega arith) in
+    λ i. before i ++ channel_line c (w i) (p i)
+
+-- what is found of a network is one
+text_same : (n : Net) → Conditions n → (a b : Findings) → Finds n a → Finds n b → verdict_text a ≡ verdict_text b
+text_same n ok a b x y =
+    let s = one_check n ok x.table x.table' x.numbers a.numbers y.table y.table' y.numbers b.numbers x.load a.load y.load b.load a.check b.check x.long y.long x.checked y.checked in
+    let lines = lines_same a.numbers b.numbers a.load b.load n.channels s.numbers s.packets in
+    ap (λ c. verdict_line a.check ++ channel_lines a.numbers a.load c) x.channels ∙ (λ i. verdict_line (s.answers i) ++ lines i) ∙ ap (λ c. verdict_line b.check ++ channel_lines b.numbers b.load c) (sym y.channels)
 
 module _ (input : List ℕ) where
-  -- an input that is taken holds one network
-  holds_one : (a b : Contents) → Holds input a → Holds input b → a ≡ b
-  holds_one a b x y = λ i. record { summary = record { size = same.0 i; records = records i }; allowed = allowed i }
+  -- an input that is taken has one text
+  holds_one : (a b : Findings) → Holds input a → Holds input b → verdict_text a ≡ verdict_text b
+  holds_one a b x y =
+      text_same (drawn y.size y.list) (drawn_conditions y.size y.list y.accepted.size y.accepted.fit) a b (subst (λ (n : Net). Finds n a) nets x.finds) y.finds
     where
-      same : (a.summary.size ≡ b.summary.size) × (x.list ≡ y.list)
-      same = (one_reading input 2048).one a.summary.size b.summary.size x.list y.list x.accepted y.accepted
+      same : (x.size ≡ y.size) × (x.list ≡ y.list)
+      same = (one_reading input 2048).one x.size y.size x.list y.list x.accepted y.accepted
 
-      records : a.summary.records ≡ b.summary.records
-      records = x.records ∙ ap length same.1 ∙ sym y.records
-
-      nets : drawn a.summary.size x.list ≡ drawn b.summary.size y.list
+      nets : drawn x.size x.list ≡ drawn y.size y.list
       nets = λ i. drawn (same.0 i) (same.1 i)
 
-      allowed : a.allowed ≡ b.allowed
-      allowed = allowed_one (drawn b.summary.size y.list) (drawn_conditions b.summary.size y.list y.accepted.size y.accepted.fit) a.allowed b.allowed (subst (λ (n : Net). AllowedPairs n a.allowed) nets x.allowed) y.allowed
-
   -- and is not refused
-  holds_or_rejects : (a : Contents) (f : StudyFault) → Holds input a → Rejects input f → ⊥
+  holds_or_rejects : (a : Findings) (f : StudyFault) → Holds input a → Rejects input f → ⊥
   holds_or_rejects a f x (long h e) = let s = x.short in omega arith
-  holds_or_rejects a f x (refused h t r e) = (one_reading input 2048).never_both a.summary.size x.list t x.accepted r
-  holds_or_rejects a f x (large h s rs r big e) = big (subst Fits ((one_reading input 2048).one a.summary.size s x.list rs x.accepted r).0 x.fits)
+  holds_or_rejects a f x (refused h t r e) = (one_reading input 2048).never_both x.size x.list t x.accepted r
+  holds_or_rejects a f x (large h s rs r big e) = big (subst Fits ((one_reading input 2048).one x.size s x.list rs x.accepted r).0 x.fits)
 
   rejects_one : (f g : StudyFault) → Rejects input f → Rejects input g → f ≡ g
   rejects_one f g (long h e) (long k d) = e ∙ sym d
@@ -47,11 +60,11 @@ module _ (input : List ℕ) where
   rejects_one f g (large h s rs r big e) (large k s' rs' r' big' d) = e ∙ sym d
 
   module _ (text : List ℕ) where
-    pub held : (a : Contents) → Holds input a → text ≡ read_line a.summary.size a.summary.records a.allowed → Answered input text
+    pub held : (a : Findings) → Holds input a → text ≡ verdict_text a → Answered input text
     held a x e = inl (record { prints = holds a x e; only = one })
       where
         one : (other : List ℕ) → Prints input other → other ≡ text
-        one other (holds b y d) = d ∙ ap (λ (z : Contents). read_line z.summary.size z.summary.records z.allowed) (holds_one b a y x) ∙ sym e
+        one other (holds b y d) = d ∙ holds_one b a y x ∙ sym e
         one other (rejects f y d) = absurd (holds_or_rejects a f x y)
 
     pub rejected : (f : StudyFault) → Rejects input f ⊎ Starves input f → text ≡ fault_line (study_parts f) → Answered input text

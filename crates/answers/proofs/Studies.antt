@@ -1,4 +1,4 @@
--- What the network file in an input holds, or why it is not taken.
+-- What is found of the network file in an input, or why it is not taken.
 use Rattle.std.proofs.Common.{◌≡◌, ℕ, ◌≤◌, ◌⊎◌, List, length, take, drop, Ok, Err, refl, ap, ◌∙◌, subst, inl, inr, arith}
 use Rattle.std.proofs.lemmas.List.{take_at}
 use Rattle.records.specs.declared.Record.{Record}
@@ -14,8 +14,8 @@ use Rattle.tables.specs.Makes.{SizeFits, Acceptable, RecordsFault}
 use Rattle.tables.proofs.OneAnswer.{one_fault}
 use Rattle.netfiles.proofs.Readings.{accepted_wanting}
 use Rattle.netfiles.specs.Reading.{Accepted, Refused, Wanting, Reading}
-use Rattle.tracing.specs.Traces.{AllowedPairs}
-use Rattle.answers.specs.Prints.{Fits, Holds, Rejects, refused, large, Starves}
+use Rattle.answers.specs.declared.Findings.{Findings}
+use Rattle.answers.specs.Prints.{Fits, Finds, Holds, Rejects, refused, large, Starves}
 
 module _ (input : List ℕ) (short : length input ≤ 32768) (before : List Record) (room : length before ≡ 2048) where
   pub unread : (t : TableFault) (after : List Record) → Reading input before (Err t) after → Rejects input (Table t) ⊎ Starves input (Table t)
@@ -42,13 +42,6 @@ module _ (input : List ℕ) (short : length input ≤ 32768) (before : List Reco
     unmade t (inl x) = absurd ((one_fault a.size r.0).never_both t acceptable (subst (λ (rs : List Record). RecordsFault a.size rs t) listed x))
     unmade t (inr x) = inr (record { short = short; wanting = accepted_wanting input 2048 a.size r.0 accepted; fault = ap Table x.1 })
 
-    pub held : (n : Net) (k : ℕ) → Fits a.size → n ≡ drawn a.size (take a.records after) → AllowedPairs n k → Holds input (record { summary = a; allowed = k })
-    held n k fits e x =
-        record {
-          short = short;
-          list = r.0;
-          accepted = accepted;
-          fits = fits;
-          records = r.2;
-          allowed = subst (λ (m : Net). AllowedPairs m k) (e ∙ ap (drawn a.size) listed) x;
-        }
+    pub held : (n : Net) (f : Findings) → Fits a.size → n ≡ drawn a.size (take a.records after) → Finds n f → Holds input f
+    held n f fits e x =
+        record { short = short; size = a.size; list = r.0; accepted = accepted; fits = fits; finds = subst (λ (m : Net). Finds m f) (e ∙ ap (drawn a.size) listed) x }

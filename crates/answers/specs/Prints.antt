@@ -1,5 +1,5 @@
 -- What netcheck prints.
-use Rattle.std.specs.Prelude.{◌≡◌, ℕ, ◌<◌, ◌≤◌, ◌⊎◌, List, [], ◌∷◌, ◌++◌, length, codes, decimal}
+use Rattle.std.specs.Prelude.{◌≡◌, ℕ, zero, suc, ◌<◌, ◌≤◌, ◌⊎◌, cond, List, [], ◌∷◌, ◌++◌, length, codes, decimal, Option, Some, None, nat_eq, slice_index}
 use Rattle.records.specs.declared.Record.{Record}
 use Rattle.records.specs.declared.Size.{Size}
 use Rattle.records.specs.declared.faults.Parts.{Parts}
@@ -10,10 +10,16 @@ use Rattle.networks.specs.declared.faults.StudyFault.TheVariants.{Table, Short}
 use Rattle.networks.specs.declared.faults.TableFault.{TableFault}
 use Rattle.networks.specs.declared.faults.TableFault.TheVariants.{NoMemory}
 use Rattle.networks.specs.Faults.{study_parts}
+use Rattle.networks.specs.Nets.{Net}
+use Rattle.numbering.specs.Numbers.{held_number}
+use Rattle.loads.specs.Checks.{Checked}
+use Rattle.loads.specs.Loads.{packet}
+use Rattle.loads.specs.Words.{verdict_word}
+use Rattle.loads.specs.declared.LoadRecord.{LoadRecord}
+use Rattle.loads.specs.declared.Check.{Check}
 use Rattle.tables.specs.Drawn.{drawn}
 use Rattle.netfiles.specs.Reading.{Accepted, Refused, Wanting}
-use Rattle.tracing.specs.Traces.{AllowedPairs}
-use Rattle.answers.specs.declared.Contents.{Contents}
+use Rattle.answers.specs.declared.Findings.{Findings}
 
 -- a number as the last field of a line, and as one that others follow
 abbrev pub last_field : ℕ → List ℕ
@@ -25,9 +31,30 @@ field n rest = decimal n ++ (9 ∷ rest)
 abbrev pub fault_line : Parts → List ℕ
 fault_line p = codes "fault\t" ++ (word_of p.layer ++ (9 ∷ field p.number (field p.line (last_field p.field))))
 
--- the size, how many records, and how many allowed pairs
-abbrev pub read_line : Size → ℕ → ℕ → List ℕ
-read_line s n a = codes "read\t" ++ field s.channels (field s.places (field n (last_field a)))
+-- a number if there is one, and else a dash
+abbrev pub mark : Option ℕ → List ℕ
+mark None = codes "-"
+mark (Some n) = decimal n
+
+-- the number of a channel that is not held
+abbrev pub number_of : ℕ → Option ℕ
+number_of word = cond (nat_eq word held_number) None (Some word)
+
+-- the line of a channel: its number, and the place of its packet in our blocked load
+abbrev pub channel_line : ℕ → ℕ → Option ℕ → List ℕ
+channel_line c word place = codes "c\t" ++ field c (mark (number_of word) ++ (9 ∷ (mark place ++ (10 ∷ []))))
+
+-- the lines of the first n channels
+unfoldable pub channel_lines : List ℕ → List LoadRecord → ℕ → List ℕ
+channel_lines numbers load zero = []
+channel_lines numbers load (suc c) = channel_lines numbers load c ++ channel_line c (slice_index numbers c) (packet load c)
+
+abbrev pub verdict_line : Check → List ℕ
+verdict_line k = codes "verdict\t" ++ (verdict_word k.verdict ++ (9 ∷ field k.numbering.greatest (last_field k.numbering.held)))
+
+-- the verdict, the greatest number and the count of held channels, and then a line for each channel
+abbrev pub verdict_text : Findings → List ℕ
+verdict_text a = verdict_line a.check ++ channel_lines a.numbers a.load a.channels
 
 -- how many bytes and records, and which networks netcheck takes
 abbrev pub most_bytes : ℕ
@@ -40,14 +67,24 @@ pub record Fits (s : Size) : Type 0 where
   pub channels : s.channels ≤ 128
   pub places : s.places ≤ 32
 
--- What a network file that netcheck takes holds.
-pub record Holds (input : List ℕ) (a : Contents) : Type 0 where
+-- What checking a network finds, whatever the buffers held before.
+pub record Finds (n : Net) (a : Findings) : Type 0 where
+  pub channels : a.channels ≡ n.channels
+  pub long : n.channels ≤ length a.numbers
+  pub table : List ℕ
+  pub table' : List ℕ
+  pub numbers : List ℕ
+  pub load : List LoadRecord
+  pub checked : Checked n table table' numbers a.numbers load a.load a.check
+
+-- What checking the network of a file that netcheck takes finds.
+pub record Holds (input : List ℕ) (a : Findings) : Type 0 where
   pub short : length input ≤ most_bytes
+  pub size : Size
   pub list : List Record
-  pub accepted : Accepted input most_records a.summary.size list
-  pub fits : Fits a.summary.size
-  pub records : a.summary.records ≡ length list
-  pub allowed : AllowedPairs (drawn a.summary.size list) a.allowed
+  pub accepted : Accepted input most_records size list
+  pub fits : Fits size
+  pub finds : Finds (drawn size list) a
 
 -- Why netcheck does not take an input: it is too long; the file in it is refused; it is accepted, and the network is too large.
 pub data Rejects (input : List ℕ) (f : StudyFault) : Type 0 where
@@ -56,7 +93,7 @@ pub data Rejects (input : List ℕ) (f : StudyFault) : Type 0 where
   large : length input ≤ most_bytes → (s : Size) (rs : List Record) → Accepted input most_records s rs → (Fits s → ⊥) → f ≡ Short File → Rejects input f
 
 pub data Prints (input : List ℕ) (text : List ℕ) : Type 0 where
-  holds : (a : Contents) → Holds input a → text ≡ read_line a.summary.size a.summary.records a.allowed → Prints input text
+  holds : (a : Findings) → Holds input a → text ≡ verdict_text a → Prints input text
   rejects : (f : StudyFault) → Rejects input f → text ≡ fault_line (study_parts f) → Prints input text
 
 -- The text is what is printed for the input, and nothing else is.

@@ -2,22 +2,25 @@
 
 #![tactic(auto)]
 
-ghost use Rattle.std.specs.Prelude.{◌≡◌, ◌⊎◌, IfOk, string_bytes, MatchResult};
+ghost use Rattle.std.specs.Prelude.{◌≡◌, ◌≤◌, ◌⊎◌, IfOk, Some, string_bytes, MatchResult};
 ghost use Rattle.networks.specs.declared.faults.Buffer.TheVariants.{File};
 ghost use Rattle.networks.specs.declared.faults.StudyFault.TheVariants.{Short};
 ghost use Rattle.networks.specs.Faults.{study_parts};
-ghost use Rattle.answers.specs.Prints.{fault_line, read_line, Fits, Holds, Rejects, Starves, Answered};
+ghost use Rattle.loads.specs.Loads.{packet_in};
+ghost use Rattle.answers.specs.Prints.{fault_line, mark, channel_line, verdict_line, verdict_text, Fits, Finds, Holds, Rejects, Starves, Answered};
 ghost use Rattle.tables.specs.Meaning.{meaning_of};
-ghost use Rattle.tracing.specs.Traces.{AllowedPairs};
 
-use files::judging::Summary;
+use loads::checking::check;
+use loads::{Check, LoadRecord};
 use netfiles::read_network;
+use networks::Network;
 use networks::faults::{Buffer, StudyFault};
+use numbering::{HELD, Numbering};
 use records::faults::{Fault, Parts};
 use records::{Record, Size};
 use std::alloc::{AllocError, Global};
+use std::fmt;
 use tables::Table;
-use tracing::trace;
 
 /// How many bytes of input are read at most.
 pub const LIMIT: usize = 32_768;
@@ -25,17 +28,34 @@ pub const LIMIT: usize = 32_768;
 // How many records, channels and places a file has at most.
 const MAX_RECORDS: usize = 2_048;
 
-const MAX_CHANNELS: u16 = 128;
+const MAX_CHANNELS: usize = 128;
 
 const MAX_PLACES: u16 = 32;
 
 const MAX_PAIRS: usize = 4_096;
 
-// What a network file holds: its size and the number of its records, and how many pairs are allowed.
+// What checking a network finds.
 #[derive(Clone, Copy, PartialEq, Eq, Debug)]
-struct Contents {
-    summary: Summary,
-    allowed: usize,
+struct Findings {
+    check: Check,
+    channels: u16,
+    numbers: [u32; MAX_CHANNELS],
+    load: [LoadRecord; MAX_CHANNELS],
+}
+
+// A number if there is one, and else a dash.
+#[derive(Clone, Copy, PartialEq, Eq, Debug)]
+struct Mark(Option<u32>);
+
+impl fmt::Display for Mark {
+    ghost output = { λ m. Some (mark m.0) };
+
+    fn fmt<W: fmt::Write>(&self, f: &mut fmt::Formatter<W>) -> fmt::Result {
+        match self.0 {
+            Some(number) => number.fmt(f),
+            None => f.write_str("-"),
+        }
+    }
 }
 
 // The line that tells a fault.
@@ -51,41 +71,79 @@ fn fault_line(heap: Global, fault: StudyFault) -> Result<String, AllocError>
     format!(in heap; "fault\t{layer}\t{number}\t{line}\t{field}\n")
 }
 
-// The line that tells what was read.
-fn read_line(heap: Global, contents: Contents) -> Result<String, AllocError>
-    ensures { IfOk result (λ s. string_bytes s ≡ read_line contents.summary.size contents.summary.records contents.allowed) }
+// The line that tells the verdict.
+fn verdict_line(heap: Global, check: Check) -> Result<String, AllocError>
+    ensures { IfOk result (λ s. string_bytes s ≡ verdict_line check) }
 {
-    let Size { channels, places } = contents.summary.size;
-    let records = contents.summary.records;
-    let allowed = contents.allowed;
-    format!(in heap; "read\t{channels}\t{places}\t{records}\t{allowed}\n")
+    let verdict = check.verdict;
+    let Numbering { greatest, held } = check.numbering;
+    format!(in heap; "verdict\t{verdict}\t{greatest}\t{held}\n")
+}
+
+// The line that tells of a channel its number, and the place of its packet in our blocked load.
+fn channel_line(
+    heap: Global,
+    channel: u16,
+    number: u32,
+    packet: LoadRecord,
+) -> Result<String, AllocError>
+    ensures { IfOk result (λ s. string_bytes s ≡ channel_line channel number (packet_in packet)) }
+{
+    let number = Mark((number != HELD).then_some(number));
+    let place = Mark(packet.place().map(u32::from));
+    format!(in heap; "c\t{channel}\t{number}\t{place}\n")
+}
+
+// The lines that tell what was found.
+fn verdict_text(heap: Global, findings: &Findings) -> Result<String, AllocError>
+    requires { findings.now.channels ≤ 128 }
+    ensures { IfOk result (λ s. string_bytes s ≡ verdict_text findings.now) }
+{
+    let mut text = verdict_line(heap, findings.check)?;
+    for channel in 0..findings.channels {
+        let position = usize::from(channel);
+        let line = channel_line(
+            heap,
+            channel,
+            findings.numbers[position],
+            findings.load[position],
+        )?;
+        text.push_str(line.as_str())?;
+    }
+    Ok(text)
 }
 
 // Refuses a network that is too large.
 fn check_size(size: Size) -> Result<(), StudyFault>
     ensures { MatchResult result (λ _. Fits size) (λ f. (Fits size → ⊥) × (f ≡ Short File)) }
 {
-    if size.channels > MAX_CHANNELS || size.places > MAX_PLACES {
+    if usize::from(size.channels) > MAX_CHANNELS || size.places > MAX_PLACES {
         return Err(StudyFault::Short(Buffer::File));
     }
     Ok(())
 }
 
-// How many pairs of a network that is not too large are allowed.
-fn count_allowed(table: &Table) -> Result<usize, StudyFault>
+// Checks a network that is not too large.
+fn check_table(table: &Table) -> Result<Findings, StudyFault>
     requires { Fits table.now.size }
-    ensures { MatchResult result (λ n. AllowedPairs (meaning_of table.now) n) (λ f. ⊥) }
+    ensures { MatchResult result (Finds (meaning_of table.now)) (λ f. ⊥) }
 {
     let mut allowed = [0u8; MAX_PAIRS];
+    let mut numbers = [0u32; MAX_CHANNELS];
+    let mut load = [LoadRecord::EMPTY; MAX_CHANNELS];
     let mut work = [0u32; MAX_PAIRS];
-    trace(table, &mut allowed, &mut work)
+    let check = check(table, &mut allowed, &mut numbers, &mut load, &mut work)?;
+    Ok(Findings {
+        check,
+        channels: table.channels(),
+        numbers,
+        load,
+    })
 }
 
-// What the network file in an input holds, or why it is not taken.
-fn study(heap: Global, input: &[u8]) -> Result<Contents, StudyFault>
-    ensures { MatchResult result
-        (λ a. Holds input.now a)
-        (λ f. Rejects input.now f ⊎ Starves input.now f) }
+// What is found of the network file in an input, or why it is not taken.
+fn study(heap: Global, input: &[u8]) -> Result<Findings, StudyFault>
+    ensures { MatchResult result (Holds input.now) (λ f. Rejects input.now f ⊎ Starves input.now f) }
 {
     Buffer::File.check(input.len(), LIMIT)?;
     // reading fills a lent list, as a caller with fixed memory has it
@@ -96,16 +154,15 @@ fn study(heap: Global, input: &[u8]) -> Result<Contents, StudyFault>
     let summary = read_network(heap, input, &mut list)?;
     check_size(summary.size)?;
     let table = Table::new(heap, summary.size, &list[..summary.records])?;
-    let allowed = count_allowed(&table)?;
-    Ok(Contents { summary, allowed })
+    check_table(&table)
 }
 
-/// The line that netcheck prints for an input: what was read, or the fault.
+/// The text that netcheck prints for an input: the verdict and a line for each channel, or the fault.
 pub fn answer(heap: Global, input: &[u8]) -> Result<String, AllocError>
     ensures { IfOk result (λ s. Answered input.now (string_bytes s)) }
 {
     match study(heap, input) {
-        Ok(contents) => read_line(heap, contents),
+        Ok(findings) => verdict_text(heap, &findings),
         Err(fault) => fault_line(heap, fault),
     }
 }

@@ -12,18 +12,21 @@ use std::process::ExitCode;
 use std::{env, io};
 
 const USAGE: &str = "\
-netcheck: checks a network file
+netcheck: checks a network file for deadlock
 
 usage: netcheck < FILE
        netcheck --help
 
-Reads a network file from standard input and prints one line:
-  read   CHANNELS PLACES RECORDS ALLOWED     the file is accepted; so many pairs of a channel
-                                             and a place are allowed: packets can reach them
-  fault  LAYER NUMBER LINE FIELD             the file is refused
+Reads a network file from standard input and prints a verdict, and then a line for each channel:
+  verdict  free|blocked  GREATEST  HELD      whether packets can block each other; the greatest
+                                             number of a channel; how many channels are held
+  c  CHANNEL  NUMBER  PLACE                  the channel's number, or - if it is held; the place of
+                                             its packet in the blocked load, or -
+or, if it refuses the file, one line:
+  fault  LAYER  NUMBER  LINE  FIELD
 The fields are parted by tabs. At most 32,768 bytes, 2,048 records, 128 channels and 32 places.
-docs/FORMAT.md has the format, docs/RULES.md what networks are, docs/REFUSALS.md the faults.
-The exit status is 0 for both answers, and 1 where the system fails.
+docs/FORMAT.md has the format, docs/RULES.md what the numbers mean, docs/REFUSALS.md the faults.
+The exit status is 0 for all these answers, and 1 where the system fails.
 ";
 
 // How many bytes are read at most: one more than the limit tells an input that is too long.
@@ -40,8 +43,8 @@ fn read_input<R: Read>(heap: Global, input: &mut R) -> io::Result<Vec<u8>>
 
 fn check_input(rt: &HostRuntime) -> anyhow::Result<()> {
     let input = read_input(rt.alloc(), &mut rt.stdin())?;
-    let line = answer(rt.alloc(), input.as_slice())?;
-    rt.stdout().write_all(line.as_bytes())?;
+    let text = answer(rt.alloc(), input.as_slice())?;
+    rt.stdout().write_all(text.as_bytes())?;
     Ok(())
 }
 

@@ -4,7 +4,7 @@ use Rattle.records.specs.declared.faults.Layer.TheVariants.{Table, Study}
 use Rattle.records.specs.Faults.{parts_of}
 use Rattle.records.specs.declared.faults.Parts.{Parts}
 use Rattle.networks.specs.declared.faults.Buffer.{Buffer}
-use Rattle.networks.specs.declared.faults.Buffer.TheVariants.{Allowed, Work, File}
+use Rattle.networks.specs.declared.faults.Buffer.TheVariants.{Allowed, Numbers, Load, Work, File}
 use Rattle.networks.specs.declared.faults.TableFault.{TableFault}
 use Rattle.networks.specs.declared.faults.TableFault.TheVariants.{Text, SizeOutOfLimits, OutOfRange, NinthWay, TooManyRecords, NoMemory}
 use Rattle.networks.specs.declared.faults.StudyFault.{StudyFault}
@@ -21,6 +21,8 @@ table_parts NoMemory = record { layer = Table; number = 19; line = 0; field = 0 
 -- the field by which a refusal names a buffer
 abbrev pub field_of : Buffer → ℕ
 field_of Allowed = 1
+field_of Numbers = 2
+field_of Load = 3
 field_of Work = 4
 field_of File = 5
 

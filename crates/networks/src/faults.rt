@@ -33,6 +33,8 @@ pub enum TableFault {
 #[derive(Clone, Copy, PartialEq, Eq, Debug)]
 pub enum Buffer {
     Allowed,
+    Numbers,
+    Load,
     Work,
     File,
 }
@@ -80,6 +82,8 @@ impl Buffer {
     {
         match self {
             Buffer::Allowed => 1,
+            Buffer::Numbers => 2,
+            Buffer::Load => 3,
             Buffer::Work => 4,
             Buffer::File => 5,
         }

@@ -1,7 +1,7 @@
 //! Pairs, and the ways of a pair one by one.
 
 ghost use Rattle.std.specs.Prelude.{◌≡◌, ◌+◌, ◌*◌, ◌^◌, ◌<◌, drop};
-ghost use Rattle.networks.specs.Allowed.{pairs};
+ghost use Rattle.networks.specs.Allowed.{pairs, said, listed, must_move};
 ghost use Rattle.std.specs.Iterator.{YieldsFirst, item_count};
 
 use crate::Network;
@@ -35,6 +35,26 @@ pub fn pair_count<N: Network>(net: &N) -> usize
         places: net.places(),
     };
     size.pairs()
+}
+
+// What a byte of a table of allowed pairs holds where the pair is allowed.
+const ALLOWED: u8 = 1;
+
+/// Whether a table of allowed pairs says that the pair is allowed. A byte that is missing counts as 0.
+pub fn is_allowed<N: Network>(net: &N, table: &[u8], pair: Pair) -> bool
+    ensures { result ≡ listed (N.meaning net.now) (said table.now) pair.channel pair.place }
+{
+    let places = net.places();
+    pair.channel < net.channels()
+        && pair.place < places
+        && table.get(pair.position(places)) == Some(&ALLOWED)
+}
+
+/// Whether, by a table of allowed pairs, packets can come to be in the channel and then have to move on.
+pub fn must_move<N: Network>(net: &N, table: &[u8], pair: Pair) -> bool
+    ensures { result ≡ must_move (N.meaning net.now) (said table.now) pair.channel pair.place }
+{
+    is_allowed(net, table, pair) && !net.home(pair)
 }
 
 /// The ways of a pair that are still to come, seen as their list.

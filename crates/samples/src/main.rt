@@ -89,8 +89,8 @@ fn run(rt: &HostRuntime) -> anyhow::Result<()> {
     let mut networks = Tally::default();
     for name in env::args(rt)?.skip(1) {
         let file = fs::read(rt, name.as_str())?;
-        let line = answer(rt.alloc(), file.as_slice())?;
-        print!(rt; "{name}: {line}")?;
+        let text = answer(rt.alloc(), file.as_slice())?;
+        print!(rt; "{name}: {text}")?;
         texts = texts.with_text(rt.alloc(), file.as_slice())?;
         networks = networks.with_network(rt.alloc(), file.as_slice())?;
     }

@@ -1,3 +1,3 @@
-pub mod Counts
 pub mod Positions
 pub mod Queueing
+pub mod Tables

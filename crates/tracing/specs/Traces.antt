@@ -18,13 +18,6 @@ pub record Traced (n : Net) (before after : List ℕ) (ones : ℕ) : Type 0 wher
   pub beyond : (k : ℕ) → pairs n ≤ k → slice_index after k ≡ slice_index before k
   pub count : ones ≡ count_by (λ byte. nat_eq byte 1) (take (pairs n) after)
 
--- So many pairs of the network are allowed: as many bytes of pairs are 1 in a table that tells of each pair whether it is.
-pub record AllowedPairs (n : Net) (ones : ℕ) : Type 0 where
-  pub table : List ℕ
-  pub whole : pairs n ≤ length table
-  pub bytes : (c d : ℕ) → c < n.channels → d < n.places → Tells (Allowed n c d) (slice_index table (position n c d))
-  pub count : ones ≡ count_by (λ byte. nat_eq byte 1) (take (pairs n) table)
-
 -- The buffers that tracing is lent: a byte and a word for each pair.
 abbrev pub rooms : Net → List ℕ → ℕ → List Room
 rooms n table work = record { buffer = buffer.Allowed; needed = pairs n; given = length table } ∷ (record { buffer = buffer.Work; needed = pairs n; given = work } ∷ [])

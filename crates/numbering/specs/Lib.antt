@@ -1,0 +1,4 @@
+pub mod Numbers
+pub mod Outcomes
+pub mod Rounds
+pub mod Systems

@@ -1,0 +1,5 @@
+pub mod Needs
+pub mod Numbers
+pub mod Outcomes
+pub mod Pigeonhole
+pub mod Walks
