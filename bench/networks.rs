@@ -64,6 +64,12 @@ impl Drawing {
         self.entries.push(PairWords { channel, place });
     }
 
+    fn entries(&mut self, count: u32, random: &mut Random) {
+        for _ in 0..count {
+            self.entry(random.below(self.channels), random.below(self.places));
+        }
+    }
+
     fn home(&mut self, channel: u16, place: u16) {
         self.homes.push(PairWords { channel, place });
     }
@@ -211,9 +217,7 @@ fn mesh(side: u16) -> Drawing {
 fn scattered(channels: u16, places: u16, seed: u64) -> Drawing {
     let mut random = Random(seed);
     let mut net = Drawing::new(channels, places);
-    for _ in 0..8_192 {
-        net.entry(random.below(channels), random.below(places));
-    }
+    net.entries(8_192, &mut random);
     for _ in 0..2_048 {
         net.home(random.below(channels), random.below(places));
     }
@@ -225,9 +229,7 @@ fn scattered(channels: u16, places: u16, seed: u64) -> Drawing {
 fn rising(channels: u16, places: u16, seed: u64) -> Drawing {
     let mut random = Random(seed);
     let mut net = Drawing::new(channels, places);
-    for _ in 0..1_024 {
-        net.entry(random.below(channels), random.below(places));
-    }
+    net.entries(1_024, &mut random);
     for place in 0..places {
         net.home(channels - 1, place);
     }

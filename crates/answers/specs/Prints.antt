@@ -40,7 +40,7 @@ mark (Some n) = decimal n
 abbrev pub number_of : ℕ → Option ℕ
 number_of word = cond (nat_eq word held_number) None (Some word)
 
--- the line of a channel: its number, and the place of its packet in our blocked load
+-- the line of a channel: its number, and the place of its packet in the blocked load
 abbrev pub channel_line : ℕ → ℕ → Option ℕ → List ℕ
 channel_line c word place = codes "c\t" ++ field c (mark (number_of word) ++ (9 ∷ (mark place ++ (10 ∷ []))))
 

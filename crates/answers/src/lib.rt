@@ -80,7 +80,7 @@ fn verdict_line(heap: Global, check: Check) -> Result<String, AllocError>
     format!(in heap; "verdict\t{verdict}\t{greatest}\t{held}\n")
 }
 
-// The line that tells of a channel its number, and the place of its packet in our blocked load.
+// The line that tells of a channel its number, and the place of its packet in the blocked load.
 fn channel_line(
     heap: Global,
     channel: u16,

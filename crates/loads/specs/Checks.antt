@@ -27,13 +27,13 @@ pub record LowestShut (s : System) (number : ℕ → ℕ) (c d : ℕ) : Type 0 w
   pub shut : Shut s number c d
   pub below : (e : ℕ) → e < d → Shut s number c e → ⊥
 
--- What our load has in channel c: a packet for the lowest place whose need has only held ways if the channel is held, and nothing
--- if it is not.
+-- Our load is the one that a check writes. What it has in channel c: a packet for the lowest place whose need has only held
+-- ways if the channel is held, and nothing if it is not.
 pub record OurPacket (s : System) (number : ℕ → ℕ) (c : ℕ) (p : Option ℕ) : Type 0 where
   pub held : number c ≡ held_number → (d : ℕ) × (p ≡ Some d) × LowestShut s number c d
   pub free : (number c ≡ held_number → ⊥) → p ≡ None
 
--- our blocked load
+-- our load
 abbrev pub Ours : System → (ℕ → ℕ) → List LoadRecord → Type 0
 Ours s number load = (c : ℕ) → c < s.items → OurPacket s number c (packet load c)
 

@@ -1,4 +1,4 @@
-//! The check of a network, and the blocked load that it leaves.
+//! The check of a network, and the blocked load that it writes, which is called ours.
 
 ghost use Rattle.std.specs.Prelude.{◌≡◌, ℕ, ◌<◌, ◌≤◌, ◌↔◌, length, if◌then◌else◌, nat_eq, slice_get, slice_index, MatchOption, IsTrue};
 ghost use Rattle.networks.specs.Allowed.{said};
@@ -84,8 +84,8 @@ fn verdict_on(held: usize) -> Verdict
     }
 }
 
-/// Checks a network: fills the table of allowed pairs, numbers the channels and writes our blocked load. The buffers are checked
-/// first, in the order of their fields, and a refusal leaves all of them. The work area is all 0 at the end.
+/// Checks a network: fills the table of allowed pairs, numbers the channels and writes our load. The buffers are checked first, in
+/// the order of their fields, and a refusal leaves all of them. The work area is all 0 at the end.
 pub fn check<N: Network>(
     net: &N,
     allowed: &mut [u8],

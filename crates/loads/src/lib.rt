@@ -42,7 +42,7 @@ impl LoadRecord {
 pub enum Verdict {
     /// Every channel is numbered, and no load is blocked.
     Free,
-    /// Some channel is held, and our load is blocked.
+    /// Some channel is held, and the load that a check writes is blocked.
     Blocked,
 }
 

@@ -16,7 +16,7 @@ one_held x e h = grind (arith, nat_tests)
 held_one : (x : ℕ) → x ≢ held_number → one x ≡ 0
 held_one x ne = grind (arith, nat_tests)
 
--- where none is counted, none of the first words is the number of held items
+-- where none is counted, none of the first words is the number that held items get
 pub none_held : (xs : List ℕ) (k : ℕ) → count_held k xs ≡ 0 → (i : ℕ) → i < k → slice_index xs i ≢ held_number
 none_held [] k e i l h = let none : List ℕ = [] in let p = get_or_past none i 0 (omega arith) in omega arith
 none_held (x ∷ xs) zero e i l h = omega arith

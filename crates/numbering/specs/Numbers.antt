@@ -25,11 +25,11 @@ pub data Equation (s : System) (number : ℕ → ℕ) (i : ℕ) : Type 0 where
   none : ((j : ℕ) → s.need i j ≡ false) → number i ≡ 0 → Equation s number i
   greatest : ((j : ℕ) → s.need i j ≡ true → (m : ℕ) × Smallest s number i j m × (suc m ≤ number i)) → (j m : ℕ) × (s.need i j ≡ true) × Smallest s number i j m × (suc m ≡ number i) → Equation s number i
 
--- the number of held items
+-- the number that every held item gets
 abbrev pub held_number : ℕ
 held_number = 4294967295
 
--- An item that lies in no held set has the number of the equation. Any other has that of held items.
+-- An item that lies in no held set has the number of the equation. Every other has the number that held items get.
 abbrev pub Numbered : System → (ℕ → ℕ) → ℕ → Type 0
 Numbered s number i = ((Held s i → ⊥) × Equation s number i) ⊎ (Held s i × (number i ≡ held_number))
 

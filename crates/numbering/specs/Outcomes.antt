@@ -14,7 +14,7 @@ pub record Greatest (s : System) (number : ℕ → ℕ) (m : ℕ) : Type 0 where
   pub none_above : (i : ℕ) → i < s.items → (number i ≡ held_number → ⊥) → number i ≤ m
   pub given : (m ≡ 0) ⊎ ((i : ℕ) × (i < s.items) × (number i ≡ held_number → ⊥) × (number i ≡ m))
 
--- how many of the first words are the number of held items
+-- how many of the first words are the number that held items get
 abbrev pub count_held : ℕ → List ℕ → ℕ
 count_held items numbers = count_by (λ word. nat_eq word held_number) (take items numbers)
 

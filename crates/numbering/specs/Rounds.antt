@@ -1,5 +1,5 @@
 -- The rounds of a numbering. Round r gives the number r to each open item whose needs all have a way with a smaller number. The
--- word of an open item is the number of held items less the count of its slots that were passed.
+-- word of an open item is the number that held items get, less the count of its slots that were passed.
 use Rattle.std.specs.Prelude.{◌≡◌, ℕ, suc, ◌+◌, ◌<◌, ◌≤◌, ◌⊎◌, Bool, true, List, slice_index, MatchBool}
 use Rattle.numbering.specs.Systems.{System, Way}
 use Rattle.numbering.specs.Numbers.{held_number}
@@ -71,6 +71,6 @@ pub record Settled (s : System) (before after : ℕ → ℕ) (r i : ℕ) (number
   pub late : r ≤ after i
   pub state : MatchBool numbered (Done s after (suc r) i × (after i ≡ r)) (Open s after (suc r) i)
 
--- From `rounds` on the words are the number of held items, and those below stay.
+-- A word from `rounds` on becomes the number that held items get, and one below stays.
 abbrev pub Closed : ℕ → List ℕ → List ℕ → ℕ → Type 0
 Closed rounds before after i = (slice_index before i < rounds → slice_index after i ≡ slice_index before i) × (rounds ≤ slice_index before i → slice_index after i ≡ held_number)

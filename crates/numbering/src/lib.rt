@@ -12,7 +12,7 @@ pub mod ways;
 
 pub use crate::rounds::number;
 
-/// The number of an item that is held.
+/// The number that every held item gets.
 pub const HELD: u32 = u32::MAX;
 
 /// What numbering a release system answers.

@@ -55,8 +55,8 @@ fn first_unmet<S: ReleaseSystem>(
         .unwrap_or(slots)
 }
 
-// How many slots an open item with such a word has passed: the word is the number of held items less their count, so that one
-// word an item is enough, and it is above every number.
+// How many slots an open item with such a word has passed: the word is `HELD` less their count. So one word an item is enough,
+// and it is above every number.
 fn passed_slots(word: u32) -> u16
     requires { held_number ≤ word + most_slots }
     ensures { result ≡ held_number - word }
@@ -147,7 +147,7 @@ fn run_rounds<S: ReleaseSystem>(
     }
 }
 
-// Gives the number of held items to those that were not numbered in one of so many rounds.
+// Gives `HELD` to those that were not numbered in one of so many rounds.
 fn close(numbers: &mut [u32], rounds: u32)
     ensures { (i : ℕ) → i < length numbers.old → Closed rounds numbers.old numbers.new i }
 {
@@ -171,7 +171,7 @@ fn open_all(numbers: &mut [u32], list: &mut [u32])
     }
 }
 
-// How many of the numbers are those of held items.
+// How many of the words are `HELD`.
 fn count_held(numbers: &[u32]) -> usize
     ensures { result ≡ count_by (λ word. nat_eq word held_number) numbers.now }
 {
