@@ -1,17 +1,25 @@
 #!/usr/bin/env python3
-"""Checks second/netcheck.py's verdicts on small random networks by trying all sets, numberings and loads there are."""
+"""Checks second/netcheck.py's verdicts on small random networks by trying all sets, numberings and loads there are, and what
+the verdicts promise of packets at work by trying all calls on these loads."""
 
 import argparse
 import random
 import sys
+from collections import Counter
 from itertools import product
 
 sys.dont_write_bytecode = True
 from files import entry, file_of, home, size, way
+from loads import MoveOn, Put, Take, make
 from netcheck import answer
+from verdicts import Network
 
 # The number of a held channel.
 HELD = 4294967295
+
+# How many positions of ways a pair has at most here, and how many calls a random run has.
+POSITIONS = 3
+CALLS = 60
 
 
 def random_network(rng):
@@ -20,7 +28,7 @@ def random_network(rng):
     pairs = list(product(range(channels), range(places)))
     entries = {pair for pair in pairs if rng.random() < 0.4}
     homes = {pair for pair in pairs if rng.random() < 0.3}
-    ways = {pair: rng.choices(range(channels), k=rng.choice([0, 1, 1, 2, 2, 3])) for pair in pairs}
+    ways = {pair: rng.choices(range(channels), k=rng.choice([0, 1, 1, 2, 2, POSITIONS])) for pair in pairs}
     return channels, places, entries, homes, ways
 
 
@@ -76,16 +84,135 @@ def expected(channels, places, entries, homes, ways):
     return "".join(line.replace(" ", "\t") + "\n" for line in lines).encode("ascii")
 
 
+def network_of(channels, places, entries, homes, ways):
+    """The network as second/verdicts.py has it."""
+    return Network("small network", channels, places, entries, homes, [(*pair, h) for pair in ways for h in ways[pair]])
+
+
+def lines_of(net):
+    """The answer that second/verdicts.py leads to."""
+    held = net.numbers.count(None)
+    greatest = max((number for number in net.numbers if number is not None), default=0)
+    lines = ["verdict\t%s\t%d\t%d\n" % ("blocked" if held else "free", greatest, held)]
+    lines += ["c\t%d\t%s\t%s\n" % (c, "-" if number is None else number, "-" if net.load[c] is None else net.load[c])
+              for c, number in enumerate(net.numbers)]
+    return "".join(lines).encode("ascii")
+
+
+def progress_calls(net):
+    """All moves and takes but those that are refused whatever the load."""
+    return [MoveOn(c, k) for c in range(net.channels) for k in range(POSITIONS)] + [Take(c) for c in range(net.channels)]
+
+
+def put_calls(net):
+    return [Put(c, d) for c, d in net.pairs]
+
+
+def allowed_loads(net):
+    records = [[None] + [d for d in range(net.places) if (c, d) in net.allowed] for c in range(net.channels)]
+    return list(product(*records))
+
+
+def any_packet(load):
+    return any(place is not None for place in load)
+
+
+def loads_after(net, load, calls):
+    """The loads that those of the calls leave that are accepted."""
+    return {left for answer, left in (make(net, load, call) for call in calls) if answer.number is None}
+
+
+def emptied_from(after):
+    """The loads from which some list of calls leads to the empty one, by the loads after a call on each."""
+    found = {load for load in after if not any_packet(load)}
+    while more := {load for load in after if load not in found and after[load] & found}:
+        found |= more
+    return found
+
+
+def try_emptying(net, loads, is_free, is_arriving):
+    """The verdict is free exactly if all allowed loads can be emptied. Of each that is not empty some packet can go on, in a free
+    network that is arriving."""
+    after = {load: loads_after(net, load, progress_calls(net)) for load in loads}
+    for load in loads:
+        left = after[load] | loads_after(net, load, put_calls(net))
+        assert left <= after.keys(), f"after {load} a load is not allowed"
+    all_can_be = emptied_from(after) == after.keys()
+    assert is_free == all_can_be, f"that all loads can be emptied is {all_can_be}, that the verdict is free {is_free}"
+    if is_free and is_arriving:
+        assert all(after[load] for load in loads if any_packet(load)), "no packet of a load can go on"
+
+
+def try_standing(net):
+    """The packets of the blocked load stand after any call, on each load that has them, whatever else it has."""
+    records = [[place] if place is not None else [None, *range(net.places + 1)] for place in net.load]
+    for load in product(*records):
+        for left in loads_after(net, load, progress_calls(net) + put_calls(net)):
+            assert all(place in (None, now) for place, now in zip(net.load, left)), f"a packet of the blocked load left {load}"
+
+
+def try_others(net, loads, is_free):
+    """No sound numbering has smaller numbers, and no blocked load has packets in other channels."""
+    def is_sound(number):
+        return all(any(number[h] < number[c] for h in net.ways[c, d]) for c, d in net.moving)
+
+    sound = list(filter(is_sound, product(range(net.channels), repeat=net.channels)))
+    assert is_free == bool(sound), f"there are {len(sound)} sound numberings, that the verdict is free is {is_free}"
+    for number in sound:
+        assert all(ours <= other for ours, other in zip(net.numbers, number)), f"the numbers {number} are smaller"
+    for load in loads:
+        if is_blocked(load, net.allowed, net.homes, net.ways):
+            assert all(place is None or net.load[c] is not None for c, place in enumerate(load)), f"{load} is blocked elsewhere"
+
+
+def try_run(rng, net, loads):
+    """A random run in a free network that is arriving: no more moves and takes are accepted than its packets cost together."""
+    cost = {pair: number + 1 for pair, number in zip(net.pairs, net.pair_numbers)}
+    load = rng.choice(loads)
+    most, made = sum(cost[c, d] for c, d in enumerate(load) if d is not None), 0
+    puts, others = put_calls(net), progress_calls(net)
+    for _ in range(CALLS):
+        call = rng.choice(puts) if rng.random() < 0.2 else rng.choice(others)
+        answer, load = make(net, load, call)
+        if answer.number is None and isinstance(call, Put):
+            most += cost[call.channel, call.place]
+        elif answer.number is None:
+            made += 1
+        assert made <= most, f"{made} moves and takes were accepted, where {most} are the most"
+
+
+def try_calls(rng, network, wanted):
+    """Tries what the verdict promises of calls, and answers what kind of network it is."""
+    net = network_of(*network)
+    assert lines_of(net) == wanted, f"expected {wanted!r}, but second/verdicts.py leads to {lines_of(net)!r}"
+    is_free, is_arriving = None not in net.numbers, None not in net.pair_numbers
+    loads = allowed_loads(net)
+    try_emptying(net, loads, is_free, is_arriving)
+    try_others(net, loads, is_free)
+    if not is_free:
+        try_standing(net)
+    if is_free and is_arriving:
+        try_run(rng, net, loads)
+    return f"{'free' if is_free else 'blocked'} and {'' if is_arriving else 'not '}arriving"
+
+
 def main():
     parser = argparse.ArgumentParser(description=__doc__)
     parser.add_argument("--count", type=int, default=1000, metavar="N", help="number of networks (default 1000)")
     count = parser.parse_args().count
+    kinds = Counter()
     for seed in range(count):
-        network = random_network(random.Random(seed))
+        rng = random.Random(seed)
+        network = random_network(rng)
         wanted, got = expected(*network), answer(file_with(*network))
         if wanted != got:
             sys.exit(f"seed {seed}: {network}: expected {wanted!r}, but the answer is {got!r}")
-    print(f"{count} small networks, each with the one answer that the definitions leave")
+        try:
+            kinds[try_calls(rng, network, wanted)] += 1
+        except AssertionError as error:
+            sys.exit(f"seed {seed}: {network}: {error}")
+    print(f"{count} small networks, each with the one answer that the definitions leave, and with what it promises of packets")
+    print(", ".join(f"{kinds[kind]} {kind}" for kind in sorted(kinds)))
 
 
 if __name__ == "__main__":

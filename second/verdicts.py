@@ -66,11 +66,12 @@ class Network:
     def __init__(self, name, channels, places, entries, homes, ways):
         self.name, self.channels, self.places = name, channels, places
         self.pairs = list(product(range(channels), range(places)))
+        self.entries, self.homes = set(entries), set(homes)
         self.ways = {pair: [] for pair in self.pairs}
         for channel, place, next_channel in ways:
             self.ways[channel, place].append(next_channel)
-        self.allowed = allowed_pairs(set(entries), set(homes), self.ways)
-        self.moving = self.allowed - set(homes)
+        self.allowed = allowed_pairs(self.entries, self.homes, self.ways)
+        self.moving = self.allowed - self.homes
         self.find_channels()
         self.find_routes()
 
@@ -128,12 +129,13 @@ def spidergon(size):
 
 
 CROSSING = [(0, 1), (1, 0)], [(0, 0), (1, 1)], [(0, 1, 1), (1, 0, 0)]
+EXIT = Network("crossing with an exit", 3, 2, CROSSING[0], CROSSING[1] + [(2, 1)], CROSSING[2] + [(0, 1, 2)])
 LOOP = Network("loop with a way out", 3, 1, [(0, 0)], [(2, 0)], [(0, 0, 1), (0, 0, 2), (1, 0, 0)])
 IN_PART = Network("held in part", 3, 2, [(0, 0), (0, 1)], [(1, 0), (2, 1)], [(0, 0, 1), (0, 1, 1), (0, 1, 2)])
 
 SMALL = [
     Network("crossing", 2, 2, *CROSSING),
-    Network("crossing with an exit", 3, 2, CROSSING[0], CROSSING[1] + [(2, 1)], CROSSING[2] + [(0, 1, 2)]),
+    EXIT,
     Network("dead end", 1, 1, [(0, 0)], [], []),
     Network("dead end without entry", 1, 1, [], [], []),
     Network("way back to its own channel", 1, 1, [(0, 0)], [], [(0, 0, 0)]),
@@ -228,18 +230,18 @@ def lines():
     yield from left_lines(IN_PART)
 
 
-def main():
-    parser = argparse.ArgumentParser(description=__doc__)
+def write_or_check(description, path, wanted, subject):
+    """Writes the lines, or checks with --check that they are what the file has."""
+    parser = argparse.ArgumentParser(description=description)
     parser.add_argument("--check", action="store_true", help="write nothing, exit 1 if the file is not up to date")
     check = parser.parse_args().check
-    wanted = list(lines())
     text = "".join(line + "\n" for line in wanted)
     if not check:
-        STDOUT.write_text(text, encoding="ascii")
-    elif not STDOUT.is_file() or STDOUT.read_text(encoding="ascii") != text:
-        sys.exit(f"{STDOUT}: not up to date")
-    print(f"{len(wanted)} lines on verdicts and routes, as they should be")
+        path.write_text(text, encoding="ascii")
+    elif not path.is_file() or path.read_text(encoding="ascii") != text:
+        sys.exit(f"{path}: not up to date")
+    print(f"{len(wanted)} lines on {subject}, as they should be")
 
 
 if __name__ == "__main__":
-    main()
+    write_or_check(__doc__, STDOUT, list(lines()), "verdicts and routes")

@@ -12,11 +12,11 @@ use Rattle.networks.specs.declared.faults.TableFault.TheVariants.{NoMemory}
 use Rattle.networks.specs.Faults.{study_parts}
 use Rattle.networks.specs.Nets.{Net}
 use Rattle.numbering.specs.Numbers.{held_number}
-use Rattle.loads.specs.Checks.{Checked}
 use Rattle.loads.specs.Loads.{packet}
-use Rattle.loads.specs.Words.{verdict_word}
+use Rattle.checks.specs.Words.{verdict_word}
 use Rattle.loads.specs.declared.LoadRecord.{LoadRecord}
-use Rattle.loads.specs.declared.Check.{Check}
+use Rattle.checks.specs.declared.outcome.Check.{Check}
+use Rattle.certificates.specs.Certificates.{Certified}
 use Rattle.tables.specs.Drawn.{drawn}
 use Rattle.netfiles.specs.Reading.{Accepted, Refused, Wanting}
 use Rattle.answers.specs.declared.Findings.{Findings}
@@ -54,7 +54,7 @@ verdict_line k = codes "verdict\t" ++ (verdict_word k.verdict ++ (9 ∷ field k.
 
 -- the verdict, the greatest number and the count of held channels, and then a line for each channel
 abbrev pub verdict_text : Findings → List ℕ
-verdict_text a = verdict_line a.check ++ channel_lines a.numbers a.load a.channels
+verdict_text a = verdict_line a.certificate.check ++ channel_lines a.numbers a.load a.channels
 
 -- how many bytes and records, and which networks netcheck takes
 abbrev pub most_bytes : ℕ
@@ -67,7 +67,7 @@ pub record Fits (s : Size) : Type 0 where
   pub channels : s.channels ≤ 128
   pub places : s.places ≤ 32
 
--- What checking a network finds, whatever the buffers held before.
+-- What is found of a network, whatever the buffers held before: a certificate with all that it promises of packets at work.
 pub record Finds (n : Net) (a : Findings) : Type 0 where
   pub channels : a.channels ≡ n.channels
   pub long : n.channels ≤ length a.numbers
@@ -75,10 +75,12 @@ pub record Finds (n : Net) (a : Findings) : Type 0 where
   pub table' : List ℕ
   pub numbers : List ℕ
   pub load : List LoadRecord
-  pub checked : Checked n table table' numbers a.numbers load a.load a.check
+  pub longest : List ℕ
+  pub longest' : List ℕ
+  pub certified : Certified n table table' numbers a.numbers load a.load longest longest' a.certificate
 
--- What checking the network of a file that netcheck takes finds.
-pub record Holds (input : List ℕ) (a : Findings) : Type 0 where
+-- What is found of the network of a file that netcheck takes.
+pub record Accepts (input : List ℕ) (a : Findings) : Type 0 where
   pub short : length input ≤ most_bytes
   pub size : Size
   pub list : List Record
@@ -93,7 +95,7 @@ pub data Rejects (input : List ℕ) (f : StudyFault) : Type 0 where
   large : length input ≤ most_bytes → (s : Size) (rs : List Record) → Accepted input most_records s rs → (Fits s → ⊥) → f ≡ Short File → Rejects input f
 
 pub data Prints (input : List ℕ) (text : List ℕ) : Type 0 where
-  holds : (a : Findings) → Holds input a → text ≡ verdict_text a → Prints input text
+  accepts : (a : Findings) → Accepts input a → text ≡ verdict_text a → Prints input text
   rejects : (f : StudyFault) → Rejects input f → text ≡ fault_line (study_parts f) → Prints input text
 
 -- The text is what is printed for the input, and nothing else is.

@@ -7,11 +7,12 @@ ghost use Rattle.networks.specs.declared.faults.Buffer.TheVariants.{File};
 ghost use Rattle.networks.specs.declared.faults.StudyFault.TheVariants.{Short};
 ghost use Rattle.networks.specs.Faults.{study_parts};
 ghost use Rattle.loads.specs.Loads.{packet_in};
-ghost use Rattle.answers.specs.Prints.{fault_line, mark, channel_line, verdict_line, verdict_text, Fits, Finds, Holds, Rejects, Starves, Answered};
+ghost use Rattle.answers.specs.Prints.{fault_line, mark, channel_line, verdict_line, verdict_text, Fits, Finds, Accepts, Rejects, Starves, Answered};
 ghost use Rattle.tables.specs.Meaning.{meaning_of};
 
-use loads::checking::check;
-use loads::{Check, LoadRecord};
+use certificates::{Certificate, certify};
+use checks::Check;
+use loads::LoadRecord;
 use netfiles::read_network;
 use networks::Network;
 use networks::faults::{Buffer, StudyFault};
@@ -34,10 +35,10 @@ const MAX_PLACES: u16 = 32;
 
 const MAX_PAIRS: usize = 4_096;
 
-// What checking a network finds.
+// What is found of a network.
 #[derive(Clone, Copy, PartialEq, Eq, Debug)]
 struct Findings {
-    check: Check,
+    certificate: Certificate,
     channels: u16,
     numbers: [u32; MAX_CHANNELS],
     load: [LoadRecord; MAX_CHANNELS],
@@ -99,7 +100,7 @@ fn verdict_text(heap: Global, findings: &Findings) -> Result<String, AllocError>
     requires { findings.now.channels ≤ 128 }
     ensures { IfOk result (λ s. string_bytes s ≡ verdict_text findings.now) }
 {
-    let mut text = verdict_line(heap, findings.check)?;
+    let mut text = verdict_line(heap, findings.certificate.check)?;
     for channel in 0..findings.channels {
         let position = usize::from(channel);
         let line = channel_line(
@@ -123,18 +124,26 @@ fn check_size(size: Size) -> Result<(), StudyFault>
     Ok(())
 }
 
-// Checks a network that is not too large.
-fn check_table(table: &Table) -> Result<Findings, StudyFault>
+// Certifies a network that is not too large.
+fn certify_table(table: &Table) -> Result<Findings, StudyFault>
     requires { Fits table.now.size }
     ensures { MatchResult result (Finds (meaning_of table.now)) (λ f. ⊥) }
 {
     let mut allowed = [0u8; MAX_PAIRS];
     let mut numbers = [0u32; MAX_CHANNELS];
     let mut load = [LoadRecord::EMPTY; MAX_CHANNELS];
+    let mut longest = [0u32; MAX_PAIRS];
     let mut work = [0u32; MAX_PAIRS];
-    let check = check(table, &mut allowed, &mut numbers, &mut load, &mut work)?;
+    let certificate = certify(
+        table,
+        &mut allowed,
+        &mut numbers,
+        &mut load,
+        &mut longest,
+        &mut work,
+    )?;
     Ok(Findings {
-        check,
+        certificate,
         channels: table.channels(),
         numbers,
         load,
@@ -143,7 +152,7 @@ fn check_table(table: &Table) -> Result<Findings, StudyFault>
 
 // What is found of the network file in an input, or why it is not taken.
 fn study(heap: Global, input: &[u8]) -> Result<Findings, StudyFault>
-    ensures { MatchResult result (Holds input.now) (λ f. Rejects input.now f ⊎ Starves input.now f) }
+    ensures { MatchResult result (Accepts input.now) (λ f. Rejects input.now f ⊎ Starves input.now f) }
 {
     Buffer::File.check(input.len(), LIMIT)?;
     // reading fills a lent list, as a caller with fixed memory has it
@@ -154,7 +163,7 @@ fn study(heap: Global, input: &[u8]) -> Result<Findings, StudyFault>
     let summary = read_network(heap, input, &mut list)?;
     check_size(summary.size)?;
     let table = Table::new(heap, summary.size, &list[..summary.records])?;
-    check_table(&table)
+    certify_table(&table)
 }
 
 /// The text that netcheck prints for an input: the verdict and a line for each channel, or the fault.

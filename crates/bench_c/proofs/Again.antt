@@ -10,8 +10,8 @@ use Rattle.numbering.specs.Systems.{System}
 use Rattle.numbering.specs.Outcomes.{Outcome}
 use Rattle.numbering.specs.declared.Numbering.{Numbering}
 use Rattle.tracing.specs.Traces.{Traced, Traces}
-use Rattle.loads.specs.Checks.{Checks, Checked}
-use Rattle.loads.specs.declared.Check.{Check}
+use Rattle.checks.specs.Checks.{Checks, Checked}
+use Rattle.checks.specs.declared.outcome.Check.{Check}
 use Rattle.loads.specs.declared.LoadRecord.{LoadRecord}
 use Rattle.routes.specs.Outcomes.{Routed, RoutesGive}
 use Rattle.routes.specs.declared.outcome.Routes.{Routes}

@@ -3,11 +3,11 @@ use Rattle.std.specs.Prelude.{◌≡◌, ℕ, ◌<◌, ◌≤◌, true, false, B
 use Rattle.networks.specs.Cleared.{AllZero}
 use Rattle.networks.specs.Nets.{Net, most_channels}
 use Rattle.networks.specs.declared.faults.StudyFault.{StudyFault}
-use Rattle.loads.specs.declared.Check.{Check}
+use Rattle.checks.specs.declared.outcome.Check.{Check}
 use Rattle.loads.specs.declared.LoadRecord.{LoadRecord}
-use Rattle.loads.specs.declared.Verdict.{Verdict}
-use Rattle.loads.specs.declared.Verdict.TheVariants.{Free, Blocked}
-use Rattle.loads.specs.Checks.{Checks}
+use Rattle.checks.specs.declared.outcome.Verdict.{Verdict}
+use Rattle.checks.specs.declared.outcome.Verdict.TheVariants.{Free, Blocked}
+use Rattle.checks.specs.Checks.{Checks}
 use Rattle.loads.specs.Loads.{packet}
 use Rattle.records.specs.declared.Record.{Record}
 use Rattle.records.specs.declared.Record.TheVariants.{Entry, Home, Way}

@@ -4,8 +4,8 @@ ghost use Rattle.std.specs.Prelude.{◌≡◌, ◌≤◌, ⊤, length, MatchResu
 ghost use Rattle.bench_c.specs.Told.{TraceTold, CheckTold, RoutesTold, Stands};
 
 use crate::crossing::{CheckAnswer, RoutesAnswer, Stand, TraceAnswer};
-use loads::checking::check;
-use loads::{Check, LoadRecord};
+use checks::{Check, check};
+use loads::LoadRecord;
 use networks::Network;
 use networks::faults::StudyFault;
 use routes::routes;

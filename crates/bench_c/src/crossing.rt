@@ -4,7 +4,8 @@ ghost use Rattle.std.specs.Prelude.{◌≡◌, ⊤, MatchResult, vec_items};
 ghost use Rattle.bench_c.specs.Told.{trace_told, check_told, routes_told, stand_of, records_of};
 ghost use Rattle.loads.specs.Loads.{packet_in};
 
-use loads::{Check, LoadRecord, Verdict};
+use checks::{Check, Verdict};
+use loads::LoadRecord;
 use networks::faults::StudyFault;
 use records::Record;
 use routes::Routes;

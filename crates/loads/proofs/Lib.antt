@@ -1,4 +1,5 @@
-pub mod Blocking
-pub mod OurLoad
-pub mod Verdicts
-pub mod Single
+pub mod Counts
+pub mod Deciding
+pub mod OneAnswer
+pub mod Records
+pub mod Refusals

@@ -1,3 +1,5 @@
-pub mod Checks
+pub mod Calls
+pub mod Faults
 pub mod Loads
-pub mod Words
+pub mod Looking
+pub mod Runs

@@ -1,5 +1,5 @@
 -- Loads of a network's channels.
-use Rattle.std.specs.Prelude.{◌≡◌, ℕ, ◌<◌, false, List, Some, Option, option_and_then, slice_get}
+use Rattle.std.specs.Prelude.{◌≡◌, ℕ, ◌<◌, false, List, Some, None, Option, option_and_then, slice_get}
 use Rattle.networks.specs.Allowed.{Allowed}
 use Rattle.networks.specs.Nets.{Net, Way}
 use Rattle.loads.specs.declared.LoadRecord.{LoadRecord}
@@ -7,6 +7,13 @@ use Rattle.loads.specs.declared.LoadRecord.{LoadRecord}
 -- the place of a record's packet, if there is one
 abbrev pub packet_in : LoadRecord → Option ℕ
 packet_in r = r.place
+
+-- the record of a channel that holds nothing, and of one that holds a packet for d
+abbrev pub nothing : LoadRecord
+nothing = record { place = None }
+
+abbrev pub packet_for : ℕ → LoadRecord
+packet_for d = record { place = Some d }
 
 -- the place of the packet in channel c, if there is one; none past the end
 abbrev pub packet : List LoadRecord → ℕ → Option ℕ

@@ -7,7 +7,8 @@ use Rattle.networks.specs.Allowed.{Allowed, position, listed, must_move, said}
 use Rattle.networks.specs.Nets.{Net, Inside, Conditions}
 use Rattle.numbering.specs.Systems as systems
 use Rattle.tracing.specs.Traces.{Tells, Traced}
-use Rattle.tracing.proofs.Positions.{allowed_inside, channel_of, place_of}
+use Rattle.networks.proofs.Inside.{allowed_inside}
+use Rattle.tracing.proofs.Positions.{channel_of, place_of}
 use Rattle.routes.specs.Routing.{route}
 
 -- one item of a list, if it has that many

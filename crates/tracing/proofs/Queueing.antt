@@ -17,7 +17,8 @@ use Rattle.tracing.specs.declared.Marks.{Marks}
 use Rattle.tracing.specs.Queue.{Queued}
 use Rattle.tracing.specs.Queues.{Grown, Taken, Sound, Entered, AllMarked, Passed, Followed}
 use Rattle.tracing.specs.Traces.{Tells, Traced, rooms}
-use Rattle.tracing.proofs.Positions.{allowed_inside, allowed_below, position_below, channel_of, place_of}
+use Rattle.networks.proofs.Inside.{allowed_inside}
+use Rattle.tracing.proofs.Positions.{allowed_below, position_below, channel_of, place_of}
 
 abbrev one : ℕ → ℕ
 one byte = cond (eqb byte 1) 1 0

@@ -1,7 +1,7 @@
 //! Calls with buffers whose content shows what was written.
 
-use loads::checking::check;
-use loads::{Check, LoadRecord};
+use checks::{Check, check};
+use loads::LoadRecord;
 use networks::Network;
 use networks::faults::StudyFault;
 use networks::pairs::pair_count;

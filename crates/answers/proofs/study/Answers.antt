@@ -1,7 +1,7 @@
 use Rattle.std.proofs.Common.{◌⊎◌, refl, inl}
 use Rattle.std.proofs.lemmas.Result.{err_from_is_err_and, MatchResult-weaker}
 use Rattle.answers.proofs.Studies.{unread, too_large, unmade, held}
-use Rattle.answers.specs.Prints.{Holds, Rejects, Starves}
+use Rattle.answers.specs.Prints.{Accepts, Rejects, Starves}
 use Rattle.answers.proofs.study.Goals as goal
 
 pub returns-in_err-summary : goal.returns-in_err-summary
@@ -22,7 +22,7 @@ returns-in_err-table c =
 
 pub returns : goal.returns
 returns c =
-    MatchResult-weaker c.check_table.result {P' = Holds c.args.input.now} {Q' = λ f. Rejects c.args.input.now f ⊎ Starves c.args.input.now f}
-    c.check_table.ensures
+    MatchResult-weaker c.certify_table.result {P' = Accepts c.args.input.now} {Q' = λ f. Rejects c.args.input.now f ⊎ Starves c.args.input.now f}
+    c.certify_table.ensures
     (λ f x. held c.args.input.now c.in_ok-check.ensures _ refl _ _ c.in_ok-summary.ensures.reading _ f c.in_ok-check_size.ensures c.in_ok-table.ensures.makes.1 x)
     (λ f x. absurd x)

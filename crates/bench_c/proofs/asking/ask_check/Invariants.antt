@@ -1,6 +1,6 @@
 use Rattle.std.proofs.Common.{length}
 use Rattle.networks.specs.Cleared.{AllZero}
-use Rattle.loads.specs.Checks.{Checks}
+use Rattle.checks.specs.Checks.{Checks}
 use Rattle.bench_c.proofs.asking.ask_check.Given as goal
 
 abbrev pub invariant-loop : goal.invariant-loop

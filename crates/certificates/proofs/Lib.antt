@@ -1,0 +1,12 @@
+mod Allowing
+mod Bounds
+mod Certifying
+mod Composed
+mod Costs
+mod Emptying
+mod LaneCertificates
+mod LaneFacts
+mod Packets
+mod Progress
+mod Sides
+mod Standing

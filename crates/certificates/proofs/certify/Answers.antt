@@ -1,0 +1,9 @@
+use Rattle.std.proofs.Common.{rules, length}
+use Rattle.certificates.proofs.Certifying.{rooms_suffice, certified_in_turn}
+use Rattle.certificates.proofs.certify.Goals as goal
+
+pub returns-clause-certifies : goal.returns-clause-certifies
+returns-clause-certifies g c = (
+  rooms_suffice (g.N.Network.meaning c.args.net.now) (length c.args.allowed.now) (length c.args.numbers.now) (length c.args.load.now) (length c.args.longest.now) (length c.args.work.now) (search rules) (search rules) (search rules) (search rules) (search rules),
+  certified_in_turn (g.N.Network.conditions c.args.net.now) c.in_ok-check-6.ensures.checks.1 c.in_ok-routes.ensures.routes.1 (search rules),
+)

@@ -1,0 +1,4 @@
+pub mod Blocking
+pub mod OurLoad
+pub mod Verdicts
+pub mod Single

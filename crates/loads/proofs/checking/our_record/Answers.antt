@@ -1,9 +1,0 @@
-use Rattle.std.proofs.Common.{rules}
-use Rattle.networks.specs.Allowed.{said}
-use Rattle.escapes.specs.Escaping.{escape_conditions}
-use Rattle.loads.proofs.OurLoad.{our_packet}
-use Rattle.loads.proofs.checking.our_record.Goals as goal
-
-pub returns : goal.returns
-returns g c =
-    our_packet (escape_conditions (g.N.Network.meaning c.args.net.now) (said c.args.allowed.now) (g.N.Network.conditions c.args.net.now)) c.requires.numbered c.requires.below c.args.channel c.requires.channel (search rules) c.lowest_shut-place.result c.lowest_shut-place.ensures

@@ -1,8 +1,0 @@
--- The words for verdicts.
-use Rattle.std.specs.Prelude.{ℕ, List, codes}
-use Rattle.loads.specs.declared.Verdict.{Verdict}
-use Rattle.loads.specs.declared.Verdict.TheVariants.{Free, Blocked}
-
-abbrev pub verdict_word : Verdict → List ℕ
-verdict_word Free = codes "free"
-verdict_word Blocked = codes "blocked"
