@@ -415,11 +415,16 @@ def damaged_line(rng, line):
 # Damages of a whole file. Each returns the new file.
 
 
-def change_line(rng, data):
+def with_one_line(rng, data, change):
+    """The file with one of its lines changed."""
     lines = data.split(b"\n")
     at = position(rng, max(1, len(lines) - 1))
-    lines[at] = damaged_line(rng, lines[at])
+    lines[at] = change(rng, lines[at])
     return b"\n".join(lines)
+
+
+def change_line(rng, data):
+    return with_one_line(rng, data, damaged_line)
 
 
 def insert_line(rng, data):

@@ -162,33 +162,56 @@ def fault(layer, number, line, field):
     return b"fault\t%s\t%d\t%d\t%d\n" % (layer, number, line, field)
 
 
-def verdict(needs):
-    """The lines for an accepted file, by the needs of its channels."""
+def mark(number):
+    return b"-" if number is None else b"%d" % number
+
+
+def channels_found(needs):
+    """By channel, its number and the place of its packet in the blocked load. One of the two is None."""
     held = held_channels(needs)
     number = channel_numbers(needs, held)
-    word = b"blocked" if held else b"free"
-    lines = [b"verdict\t%s\t%d\t%d\n" % (word, max(number.values(), default=0), len(held))]
-    for channel, ways_by_place in enumerate(needs):
-        if channel in held:
-            place = min(place for place, ways in ways_by_place.items() if ways <= held)
-            lines.append(b"c\t%d\t-\t%d\n" % (channel, place))
-        else:
-            lines.append(b"c\t%d\t%d\t-\n" % (channel, number[channel]))
+    return [(None, min(place for place, ways in needs[channel].items() if ways <= held)) if channel in held
+            else (number[channel], None) for channel in range(len(needs))]
+
+
+def verdict(channels):
+    """The lines for an accepted file, by the number and the place of each channel."""
+    held = sum(number is None for number, _ in channels)
+    greatest = max((number for number, _ in channels if number is not None), default=0)
+    lines = [b"verdict\t%s\t%d\t%d\n" % (b"blocked" if held else b"free", greatest, held)]
+    lines += [b"c\t%d\t%s\t%s\n" % (channel, *map(mark, found)) for channel, found in enumerate(channels)]
     return b"".join(lines)
+
+
+def size_and_records(data):
+    """The counts of an accepted file, and its records, each a letter and numbers."""
+    size, *records = [(fields[0], numbers_of(fields)) for fields, _ in lines_of(data)]
+    return size[1], records
+
+
+def refusal(data):
+    """The layer, number, line and field of the fault of an input, or None."""
+    if len(data) > LIMIT:
+        return b"study", 20, 0, 5
+    found = judge(data)
+    if found:
+        return found
+    channels, places = size_and_records(data)[0]
+    if channels > CHANNEL_LIMIT or places > PLACE_LIMIT:
+        return b"study", 20, 0, 5
+    return None
+
+
+def needs_in(data):
+    """The needs of the channels of an accepted file."""
+    (channels, _), records = size_and_records(data)
+    return needs_of(channels, records)
 
 
 def answer(data: bytes) -> bytes:
     """What netcheck prints."""
-    if len(data) > LIMIT:
-        return fault(b"study", 20, 0, 5)
-    found = judge(data)
-    if found:
-        return fault(*found)
-    size, *records = [(fields[0], numbers_of(fields)) for fields, _ in lines_of(data)]
-    channels, places = size[1]
-    if channels > CHANNEL_LIMIT or places > PLACE_LIMIT:
-        return fault(b"study", 20, 0, 5)
-    return verdict(needs_of(channels, records))
+    found = refusal(data)
+    return fault(*found) if found else verdict(channels_found(needs_in(data)))
 
 
 def main():

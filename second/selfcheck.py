@@ -1,6 +1,6 @@
 #!/usr/bin/env python3
-"""Checks second/netcheck.py's verdicts on small random networks by trying all sets, numberings and loads there are, and what
-the verdicts promise of packets at work by trying all calls on these loads."""
+"""Checks second/netcheck.py's verdicts on small random networks by trying all sets, numberings and loads there are; what the
+verdicts promise of packets at work by trying all calls on these loads; and drains and judgements of all loads and numberings."""
 
 import argparse
 import random
@@ -9,9 +9,11 @@ from collections import Counter
 from itertools import product
 
 sys.dont_write_bytecode = True
+from drains import drain
 from files import entry, file_of, home, size, way
+from judges import judge_answer, loose_packet, unmet_need
 from loads import MoveOn, Put, Take, make
-from netcheck import answer
+from netcheck import answer, needs_in
 from verdicts import Network
 
 # The number of a held channel.
@@ -181,6 +183,62 @@ def try_run(rng, net, loads):
         assert made <= most, f"{made} moves and takes were accepted, where {most} are the most"
 
 
+def next_call(net, load):
+    """The call that comes next in a drain. Of the channels with packets it is about the first by number and then by channel."""
+    channel = min((c for c, d in enumerate(load) if d is not None), key=lambda c: (net.numbers[c], c))
+    if (channel, load[channel]) in net.homes:
+        return Take(channel)
+    smaller = [net.numbers[h] < net.numbers[channel] for h in net.ways[channel, load[channel]]]
+    return MoveOn(channel, smaller.index(True))
+
+
+def own_calls(net, channel, place):
+    """How many moves by first ways to smaller numbers bring a packet home, and one for taking it."""
+    if (channel, place) in net.homes:
+        return 1
+    return 1 + own_calls(net, next(h for h in net.ways[channel, place] if net.numbers[h] < net.numbers[channel]), place)
+
+
+def try_drain(net, load):
+    """A drain of an allowed load in a free network: it is the calls that come next, until the load is empty, and as many as the
+    packets need by themselves."""
+    number, calls, left = drain(net, load)
+    assert number is None, f"the drain of {load} is refused by {number}"
+    packets = [(c, d) for c, d in enumerate(load) if d is not None]
+    now = load
+    for call in calls:
+        assert str(call) == str(next_call(net, now)), f"on {now} of {load} the drain makes the call {call}"
+        answer, now = make(net, now, call)
+        assert answer.number is None, f"on {now} of {load}, {call}: {answer}"
+    assert now == left and not any_packet(left), f"the drain of {load} leaves {left}"
+    assert len(calls) == sum(own_calls(net, c, d) for c, d in packets), f"the drain of {load} has {len(calls)} calls"
+    assert len(calls) <= sum(net.numbers[c] + 1 for c, _ in packets), f"the drain of {load} has {len(calls)} calls"
+
+
+def try_drains(net, loads, others, is_free):
+    """A drain of each load there is, or its refusal."""
+    allowed = set(loads)
+    for load in others:
+        if is_free and load in allowed:
+            try_drain(net, load)
+        else:
+            assert drain(net, load) == (41 if is_free else 40, [], load), f"the drain of {load} is not refused as it should be"
+
+
+def try_judges(net, needs, others):
+    """Of each numbering up to the count of channels, and of each load, the lowest pair that offends is told, if any does."""
+    for number in product(range(net.channels + 1), repeat=net.channels):
+        offends = [(c, d) for c, d in net.moving if not any(number[h] < number[c] for h in net.ways[c, d])]
+        assert unmet_need(needs, number) == min(offends, default=None), f"in the numbers {number} the pairs {offends} offend"
+    for load in others:
+        offends = [(c, d) for c, d in enumerate(load) if d is not None
+                   and ((c, d) not in net.moving or None in [load[h] for h in net.ways[c, d]])]
+        judged = loose_packet(needs, load)
+        assert judged == min(offends, default=None), f"in the load {load} the pairs {offends} offend"
+        blocked = is_blocked(load, net.allowed, net.homes, net.ways)
+        assert blocked == (judged is None and any_packet(load)), f"that {load} is blocked is {blocked}"
+
+
 def try_calls(rng, network, wanted):
     """Tries what the verdict promises of calls, and answers what kind of network it is."""
     net = network_of(*network)
@@ -193,6 +251,11 @@ def try_calls(rng, network, wanted):
         try_standing(net)
     if is_free and is_arriving:
         try_run(rng, net, loads)
+    others = list(product([None, *range(net.places + 1)], repeat=net.channels))
+    try_drains(net, loads, others, is_free)
+    file = file_with(*network)
+    try_judges(net, needs_in(file), others)
+    assert judge_answer(file, wanted).startswith(b"judge\t%s\t-\t-\n" % (b"sound" if is_free else b"blocked"))
     return f"{'free' if is_free else 'blocked'} and {'' if is_arriving else 'not '}arriving"
 
 
@@ -211,7 +274,8 @@ def main():
             kinds[try_calls(rng, network, wanted)] += 1
         except AssertionError as error:
             sys.exit(f"seed {seed}: {network}: {error}")
-    print(f"{count} small networks, each with the one answer that the definitions leave, and with what it promises of packets")
+    print(f"{count} small networks, each with the one answer that the definitions leave, with what it promises of packets, and with "
+          "drains and judgements by the rules")
     print(", ".join(f"{kinds[kind]} {kind}" for kind in sorted(kinds)))
 
 

@@ -61,7 +61,9 @@ def check_numbering(needs, number):
 
 
 class Network:
-    """What check and routes find: by channel and by pair the numbers, None for a held one, and the places of the blocked load."""
+    """What check and routes find: by channel and by pair the numbers, None for a held one, and the places of the blocked load.
+
+    The needs of a channel are its lists of ways by place."""
 
     def __init__(self, name, channels, places, entries, homes, ways):
         self.name, self.channels, self.places = name, channels, places
@@ -77,14 +79,13 @@ class Network:
 
     def find_channels(self):
         """By Escape: the items are the channels."""
-        places = [[place for place in range(self.places) if (channel, place) in self.moving]
-                  for channel in range(self.channels)]
-        number = numbering({channel: [self.ways[channel, place] for place in places[channel]]
-                            for channel in range(self.channels)})
+        self.needs = [{place: self.ways[channel, place] for place in range(self.places) if (channel, place) in self.moving}
+                      for channel in range(self.channels)]
+        number = numbering({channel: list(needs.values()) for channel, needs in enumerate(self.needs)})
         self.numbers = [number.get(channel) for channel in range(self.channels)]
         self.load = [None if channel in number else
-                     min(place for place in places[channel] if all(way not in number for way in self.ways[channel, place]))
-                     for channel in range(self.channels)]
+                     min(place for place, ways in needs.items() if all(way not in number for way in ways))
+                     for channel, needs in enumerate(self.needs)]
 
     def find_routes(self):
         """By Route: the items are the pairs, and a pair needs each of its ways."""

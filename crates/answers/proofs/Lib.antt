@@ -1,3 +1,10 @@
+mod Agreeing
+mod Begun
+mod Concluding
 mod Lines
+mod OneResult
+mod OneText
 mod Only
+mod Rows
+mod Rulings
 mod Studies

@@ -8,14 +8,14 @@ use Rattle.networks.specs.declared.faults.StudyFault.{StudyFault}
 use Rattle.networks.specs.declared.faults.StudyFault.TheVariants.{Table, Short}
 use Rattle.networks.specs.declared.faults.TableFault.{TableFault}
 use Rattle.networks.specs.declared.faults.TableFault.TheVariants.{NoMemory}
+use Rattle.records.specs.declared.Size.{Size}
 use Rattle.networks.specs.Nets.{Net}
 use Rattle.tables.specs.Drawn.{drawn}
 use Rattle.tables.specs.Makes.{SizeFits, Acceptable, RecordsFault}
 use Rattle.tables.proofs.OneAnswer.{one_fault}
 use Rattle.netfiles.proofs.Readings.{accepted_wanting}
 use Rattle.netfiles.specs.Reading.{Accepted, Refused, Wanting, Reading}
-use Rattle.answers.specs.declared.Findings.{Findings}
-use Rattle.answers.specs.Prints.{Fits, Finds, Accepts, Rejects, refused, large, Starves}
+use Rattle.answers.specs.Prints.{Fits, Takes, Rejects, refused, large, Starves}
 
 module _ (input : List ℕ) (short : length input ≤ 32768) (before : List Record) (room : length before ≡ 2048) where
   pub unread : (t : TableFault) (after : List Record) → Reading input before (Err t) after → Rejects input (Table t) ⊎ Starves input (Table t)
@@ -42,6 +42,10 @@ module _ (input : List ℕ) (short : length input ≤ 32768) (before : List Reco
     unmade t (inl x) = absurd ((one_fault a.size r.0).never_both t acceptable (subst (λ (rs : List Record). RecordsFault a.size rs t) listed x))
     unmade t (inr x) = inr (record { short = short; wanting = accepted_wanting input 2048 a.size r.0 accepted; fault = ap Table x.1 })
 
-    pub held : (n : Net) (f : Findings) → Fits a.size → n ≡ drawn a.size (take a.records after) → Finds n f → Accepts input f
-    held n f fits e x =
-        record { short = short; size = a.size; list = r.0; accepted = accepted; fits = fits; finds = subst (λ (m : Net). Finds m f) (e ∙ ap (drawn a.size) listed) x }
+    pub takes : (n : Net) → Fits a.size → n ≡ drawn a.size (take a.records after) → Takes input n
+    takes n fits e =
+        record { short = short; size = a.size; list = r.0; accepted = accepted; fits = fits; network = e ∙ ap (drawn a.size) listed }
+
+-- a size fits if it is one that does
+pub fitting : (t s : Size) → t.channels ≡ s.channels → t.places ≡ s.places → Fits s → Fits t
+fitting t s c d fits = record { channels = omega (arith, c, fits.channels); places = omega (arith, d, fits.places) }

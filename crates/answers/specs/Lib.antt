@@ -1,1 +1,5 @@
+pub mod Judgements
+pub mod Judgings
 pub mod Prints
+pub mod Results
+pub mod Rows

@@ -79,14 +79,19 @@ pub record Finds (n : Net) (a : Findings) : Type 0 where
   pub longest' : List ℕ
   pub certified : Certified n table table' numbers a.numbers load a.load longest longest' a.certificate
 
--- What is found of the network of a file that netcheck takes.
-pub record Accepts (input : List ℕ) (a : Findings) : Type 0 where
+-- The network of a file that netcheck takes.
+pub record Takes (input : List ℕ) (n : Net) : Type 0 where
   pub short : length input ≤ most_bytes
   pub size : Size
   pub list : List Record
   pub accepted : Accepted input most_records size list
   pub fits : Fits size
-  pub finds : Finds (drawn size list) a
+  pub network : n ≡ drawn size list
+
+-- What is found of it.
+pub record Accepts (input : List ℕ) (n : Net) (a : Findings) : Type 0 where
+  pub takes : Takes input n
+  pub finds : Finds n a
 
 -- Why netcheck does not take an input: it is too long; the file in it is refused; it is accepted, and the network is too large.
 pub data Rejects (input : List ℕ) (f : StudyFault) : Type 0 where
@@ -95,7 +100,7 @@ pub data Rejects (input : List ℕ) (f : StudyFault) : Type 0 where
   large : length input ≤ most_bytes → (s : Size) (rs : List Record) → Accepted input most_records s rs → (Fits s → ⊥) → f ≡ Short File → Rejects input f
 
 pub data Prints (input : List ℕ) (text : List ℕ) : Type 0 where
-  accepts : (a : Findings) → Accepts input a → text ≡ verdict_text a → Prints input text
+  accepts : (n : Net) (a : Findings) → Accepts input n a → text ≡ verdict_text a → Prints input text
   rejects : (f : StudyFault) → Rejects input f → text ≡ fault_line (study_parts f) → Prints input text
 
 -- The text is what is printed for the input, and nothing else is.

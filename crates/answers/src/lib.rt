@@ -2,14 +2,19 @@
 
 #![tactic(auto)]
 
-ghost use Rattle.std.specs.Prelude.{◌≡◌, ◌≤◌, ◌⊎◌, IfOk, Some, string_bytes, MatchResult};
+ghost use Rattle.std.specs.Prelude.{◌≡◌, ◌<◌, ◌≤◌, ◌⊎◌, ◌∷◌, ◌++◌, IfOk, Some, slice_index, string_bytes, MatchResult};
 ghost use Rattle.networks.specs.declared.faults.Buffer.TheVariants.{File};
 ghost use Rattle.networks.specs.declared.faults.StudyFault.TheVariants.{Short};
 ghost use Rattle.networks.specs.Faults.{study_parts};
-ghost use Rattle.loads.specs.Loads.{packet_in};
-ghost use Rattle.answers.specs.Prints.{fault_line, mark, channel_line, verdict_line, verdict_text, Fits, Finds, Accepts, Rejects, Starves, Answered};
+ghost use Rattle.networks.specs.Nets.{Net};
+ghost use Rattle.loads.specs.Loads.{packet, packet_in};
+ghost use Rattle.answers.specs.Prints.{fault_line, mark, number_of, channel_line, verdict_line, verdict_text, Fits, Finds, Takes, Accepts, Rejects, Starves, Answered};
 ghost use Rattle.tables.specs.Meaning.{meaning_of};
 
+mod judging;
+mod results;
+
+pub use crate::judging::judge_result;
 use certificates::{Certificate, certify};
 use checks::Check;
 use loads::LoadRecord;
@@ -81,18 +86,41 @@ fn verdict_line(heap: Global, check: Check) -> Result<String, AllocError>
     format!(in heap; "verdict\t{verdict}\t{greatest}\t{held}\n")
 }
 
-// The line that tells of a channel its number, and the place of its packet in the blocked load.
-fn channel_line(
-    heap: Global,
-    channel: u16,
+// What is told of a channel: its number, and its packet in a blocked load.
+#[derive(Clone, Copy, PartialEq, Eq, Debug)]
+struct Told {
     number: u32,
     packet: LoadRecord,
-) -> Result<String, AllocError>
-    ensures { IfOk result (λ s. string_bytes s ≡ channel_line channel number (packet_in packet)) }
+}
+
+impl fmt::Display for Told {
+    ghost output = { λ t. Some (mark (number_of t.number) ++ (9 ∷ mark (packet_in t.packet))) };
+
+    fn fmt<W: fmt::Write>(&self, f: &mut fmt::Formatter<W>) -> fmt::Result {
+        let number = Mark((self.number != HELD).then_some(self.number));
+        let place = Mark(self.packet.place().map(u32::from));
+        write!(f, "{number}\t{place}")
+    }
+}
+
+// What is told of one channel.
+fn told_of(numbers: &[u32; MAX_CHANNELS], load: &[LoadRecord; MAX_CHANNELS], channel: u16) -> Told
+    requires { channel < 128 }
+    ensures number { result.number ≡ slice_index numbers.now channel }
+    ensures packet { packet_in result.packet ≡ packet load.now channel }
 {
-    let number = Mark((number != HELD).then_some(number));
-    let place = Mark(packet.place().map(u32::from));
-    format!(in heap; "c\t{channel}\t{number}\t{place}\n")
+    let position = usize::from(channel);
+    Told {
+        number: numbers[position],
+        packet: load[position],
+    }
+}
+
+// The line that tells of a channel its number, and the place of its packet in the blocked load.
+fn channel_line(heap: Global, channel: u16, told: Told) -> Result<String, AllocError>
+    ensures { IfOk result (λ s. string_bytes s ≡ channel_line channel told.number (packet_in told.packet)) }
+{
+    format!(in heap; "c\t{channel}\t{told}\n")
 }
 
 // The lines that tell what was found.
@@ -102,13 +130,8 @@ fn verdict_text(heap: Global, findings: &Findings) -> Result<String, AllocError>
 {
     let mut text = verdict_line(heap, findings.certificate.check)?;
     for channel in 0..findings.channels {
-        let position = usize::from(channel);
-        let line = channel_line(
-            heap,
-            channel,
-            findings.numbers[position],
-            findings.load[position],
-        )?;
+        let told = told_of(&findings.numbers, &findings.load, channel);
+        let line = channel_line(heap, channel, told)?;
         text.push_str(line.as_str())?;
     }
     Ok(text)
@@ -150,9 +173,9 @@ fn certify_table(table: &Table) -> Result<Findings, StudyFault>
     })
 }
 
-// What is found of the network file in an input, or why it is not taken.
-fn study(heap: Global, input: &[u8]) -> Result<Findings, StudyFault>
-    ensures { MatchResult result (Accepts input.now) (λ f. Rejects input.now f ⊎ Starves input.now f) }
+// The table of the network file in an input, or why it is not taken.
+fn read_table(heap: Global, input: &[u8]) -> Result<Table, StudyFault>
+    ensures { MatchResult result (λ t. Takes input.now (meaning_of t) × Fits t.size) (λ f. Rejects input.now f ⊎ Starves input.now f) }
 {
     Buffer::File.check(input.len(), LIMIT)?;
     // reading fills a lent list, as a caller with fixed memory has it
@@ -162,7 +185,14 @@ fn study(heap: Global, input: &[u8]) -> Result<Findings, StudyFault>
     }; MAX_RECORDS];
     let summary = read_network(heap, input, &mut list)?;
     check_size(summary.size)?;
-    let table = Table::new(heap, summary.size, &list[..summary.records])?;
+    Ok(Table::new(heap, summary.size, &list[..summary.records])?)
+}
+
+// What is found of the network file in an input, or why it is not taken.
+fn study(heap: Global, input: &[u8]) -> Result<Findings, StudyFault>
+    ensures { MatchResult result (λ a. (n : Net) × Accepts input.now n a) (λ f. Rejects input.now f ⊎ Starves input.now f) }
+{
+    let table = read_table(heap, input)?;
     certify_table(&table)
 }
 

@@ -51,7 +51,7 @@ module _ {n : Net} (ok : Conditions n) {before table numbers numbers' : List ℕ
   }
 
   certified : Certified n before table numbers numbers' load load' longest longest' (record { check = a; routes = b })
-  certified = record { checked = c; routed = r; soundness = soundness ok c; promises = promises }
+  certified = record { checked = c; routed = r; soundness = soundness ok c.traced.1; promises = promises }
 
 -- the check first, and then the routes in the same table
 pub certified_in_turn : {n : Net} (ok : Conditions n) {before between table numbers numbers' : List ℕ} {load load' : List LoadRecord} {longest longest' : List ℕ} {a : Check} {b : Routes} → Checked n before between numbers numbers' load load' a → Routed n between table longest longest' b → n.channels ≤ length load' → Certified n before table numbers numbers' load load' longest longest' (record { check = a; routes = b })

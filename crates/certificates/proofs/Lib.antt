@@ -1,12 +1,12 @@
-mod Allowing
+pub mod Allowing
 mod Bounds
 mod Certifying
 mod Composed
-mod Costs
+pub mod Costs
 mod Emptying
 mod LaneCertificates
 mod LaneFacts
 mod Packets
 mod Progress
-mod Sides
+pub mod Sides
 mod Standing

@@ -1,11 +1,14 @@
 -- What a check's verdict says against every sound numbering and every blocked load.
-use Rattle.std.proofs.Common.{◌≡◌, ℕ, ◌<◌, ◌≤◌, ◌↔◌, true, false, not, nat_lt, eqb, List, slice_index, refl}
-use Rattle.std.proofs.lemmas.Bool.{ltb-true, lt-ltb, ne_eqb, and_parts, and_from, not_from_false}
+use Rattle.std.proofs.Common.{◌≡◌, ℕ, ◌<◌, ◌≤◌, ◌↔◌, true, false, nat_lt, List, slice_index, refl}
+use Rattle.std.proofs.lemmas.Bool.{ltb-true, lt-ltb, ne_eqb, and_from, not_from_false}
 use Rattle.networks.specs.Allowed.{Allowed, said}
 use Rattle.networks.specs.Nets.{Net}
 use Rattle.networks.specs.Nets as nets
 use Rattle.numbering.specs.Systems.{System}
 use Rattle.numbering.specs.Numbers.{Held, Sound, held_number}
+use Rattle.numbering.specs.Outcomes.{Outcome}
+use Rattle.numbering.specs.declared.Numbering.{Numbering}
+use Rattle.tracing.specs.Traces.{Traced}
 use Rattle.escapes.specs.Escaping.{escape, escape_conditions}
 use Rattle.loads.specs.Loads.{Holds, Blocked}
 use Rattle.loads.specs.declared.LoadRecord.{LoadRecord}
@@ -31,12 +34,12 @@ is_blocked : (v : Verdict) → (v ≡ verdicts.Free → ⊥) → v ≡ verdicts.
 is_blocked verdicts.Free not_free = absurd (not_free refl)
 is_blocked verdicts.Blocked not_free = refl
 
-module _ {n : Net} (ok : nets.Conditions n) {before table numbers numbers' : List ℕ} {load load' : List LoadRecord} {a : Check} (x : Checked n before table numbers numbers' load load' a) where
+module _ {n : Net} (ok : nets.Conditions n) {before table : List ℕ} {ones : ℕ} (t : Traced n before table ones) where
   -- The needs are the pairs that packets can reach and that are not home.
-  needs : (c d : ℕ) → ((escape n (said table)).need c d ≡ true) ↔ (Allowed n c d × (n.home c d ≡ false))
+  pub needs : (c d : ℕ) → ((escape n (said table)).need c d ≡ true) ↔ (Allowed n c d × (n.home c d ≡ false))
   needs c d = (
-    need_moves x.traced.1 c d,
-    λ moves. and_from _ _ (listed_allowed ok x.traced.1 c d moves.0) (not_from_false _ moves.1),
+    need_moves t c d,
+    λ moves. and_from _ _ (listed_allowed ok t c d moves.0) (not_from_false _ moves.1),
   )
 
   -- A numbering that is sound of all pairs is sound for the release system of the channels, and the other way round.
@@ -55,23 +58,25 @@ module _ {n : Net} (ok : nets.Conditions n) {before table numbers numbers' : Lis
           let w = sound c d (lt-ltb c n.channels ((escape_conditions n (said table) ok).need_inside c d need).0) need in
           (w.0, w.1, w.3)
 
-  -- Where the verdict is free, our numbers are a sound numbering of all channels.
-  sound_all : a.verdict ≡ verdicts.Free → Sound (escape n (said table)) (λ c. nat_lt c n.channels) (slice_index numbers')
-  sound_all free i j inside need =
-      let l = ltb-true i n.channels inside in
-      let none = none_held a.verdict (escape n (said table)) (slice_index numbers') x.verdict free i l in
-      let w = x.numbered.sound i j (and_from _ _ inside (not_from_false _ (ne_eqb _ _ none))) need in
-      (w.0, w.1, (and_parts (nat_lt w.0 n.channels) (not (eqb (slice_index numbers' w.0) held_number)) w.2).0, w.3)
+  -- Where no channel is held, the numbers that are defined are a sound numbering of all channels.
+  pub sound_free : {numbers numbers' : List ℕ} {a : Numbering} → Outcome (escape n (said table)) numbers numbers' a → ((c : ℕ) → c < n.channels → slice_index numbers' c ≡ held_number → ⊥) → SoundOfAll n (slice_index numbers')
+  sound_free {numbers' = numbers'} o none c d allowed away =
+      let need = (needs c d).1 (allowed, away) in
+      let inside = ((escape_conditions n (said table) ok).need_inside c d need).0 in
+      let w = o.sound c d (and_from _ _ (lt-ltb c n.channels inside) (not_from_false _ (ne_eqb _ _ (none c inside)))) need in
+      (w.0, w.1, w.3)
 
+module _ {n : Net} (ok : nets.Conditions n) {before table numbers numbers' : List ℕ} {load load' : List LoadRecord} {a : Check} (x : Checked n before table numbers numbers' load load' a) where
+  -- Where the verdict is free, our numbers are a sound numbering of all channels.
   pub sound_lowers : a.verdict ≡ verdicts.Free → SoundOfAll n (slice_index numbers')
-  sound_lowers free = (soundness (slice_index numbers')).1 (sound_all free)
+  sound_lowers free = sound_free ok x.traced.1 x.numbered (none_held a.verdict (escape n (said table)) (slice_index numbers') x.verdict free)
 
   -- Whoever has a sound numbering of all channels: the verdict is free, our numbers are sound too, and none is greater.
   pub least : (other : ℕ → ℕ) → SoundOfAll n other → (a.verdict ≡ verdicts.Free) × SoundOfAll n (slice_index numbers') × ((c : ℕ) → c < n.channels → slice_index numbers' c ≤ other c)
   least other sound = (free, sound_lowers free, λ c l. (best c l).1)
     where
       best : (c : ℕ) → c < n.channels → (Held (escape n (said table)) c → ⊥) × (slice_index numbers' c ≤ other c)
-      best c l = x.numbered.least (λ i. nat_lt i n.channels) other (λ i. ltb-true i n.channels) ((soundness other).0 sound) c (lt-ltb c n.channels l)
+      best c l = x.numbered.least (λ i. nat_lt i n.channels) other (λ i. ltb-true i n.channels) ((soundness ok x.traced.1 other).0 sound) c (lt-ltb c n.channels l)
 
       free : a.verdict ≡ verdicts.Free
       free = is_free a.verdict (escape n (said table)) (slice_index numbers') x.verdict (λ c l e. (best c l).0 (is_held (escape_conditions n (said table) ok) x.numbered.all x.numbered.below c l e))

@@ -1,5 +1,5 @@
 -- Where our load is blocked, and where none is.
-use Rattle.std.proofs.Common.{◌≡◌, ℕ, ◌<◌, ◌↔◌, inl, inr, Bool, true, false, not, ◌&&◌, nat_lt, eqb, eq-eqb, List, Option, is_some, Some, None, slice_index, subst, refl, ap, arith}
+use Rattle.std.proofs.Common.{◌≡◌, ℕ, ◌<◌, ◌↔◌, inl, inr, Bool, true, false, not, ◌&&◌, nat_lt, eq-eqb, List, Option, is_some, Some, None, slice_index, subst, refl, ap, arith}
 use native.Mathlib.Decide.{ℕ_discrete}
 use Rattle.std.proofs.lemmas.Bool.{ltb-true, lt-ltb, eqb-true, and_parts, and_from, not-true, not_from_false}
 use Rattle.networks.specs.Allowed.{Allowed, position, listed, must_move, said}
@@ -17,18 +17,17 @@ use Rattle.loads.specs.declared.LoadRecord.{LoadRecord}
 use Rattle.checks.specs.declared.outcome.Verdict.{Verdict}
 use Rattle.checks.specs.declared.outcome.Verdict.TheVariants as verdicts
 
--- A need of a traced network is that of a pair that packets can reach and that is not home.
+-- A pair that is listed by the table of a traced network is one that packets can reach, and a need is that of such a pair that is not home.
 module _ {n : Net} {before table : List ℕ} {ones : ℕ} (t : Traced n before table ones) where
-  told : (c d : ℕ) → c < n.channels → d < n.places → eqb (slice_index table (position n c d)) 1 ≡ true → Allowed n c d
-  told c d l m e = elim (t.bytes c d l m) [ inl x ↦ x.0 | inr y ↦ absurd (omega (arith, y.1, eqb-true _ _ e)) ]
+  pub listed_told : (c d : ℕ) → listed n (said table) c d ≡ true → Allowed n c d
+  listed_told c d e =
+      let byte = said table (position n c d) in
+      let x = and_parts (nat_lt c n.channels) (nat_lt d n.places && byte) e in
+      let y = and_parts (nat_lt d n.places) byte x.1 in
+      elim (t.bytes c d (ltb-true c n.channels x.0) (ltb-true d n.places y.0)) [ inl z ↦ z.0 | inr z ↦ absurd (omega (arith, z.1, eqb-true _ _ y.1)) ]
 
   pub need_moves : (c d : ℕ) → (escape n (said table)).need c d ≡ true → Allowed n c d × (n.home c d ≡ false)
-  need_moves c d e =
-      let byte = said table (position n c d) in
-      let x = and_parts (listed n (said table) c d) (not (n.home c d)) e in
-      let y = and_parts (nat_lt c n.channels) (nat_lt d n.places && byte) x.0 in
-      let z = and_parts (nat_lt d n.places) byte y.1 in
-      (told c d (ltb-true c n.channels y.0) (ltb-true d n.places z.0) z.1, not-true (n.home c d) x.1)
+  need_moves c d e = let x = and_parts (listed n (said table) c d) (not (n.home c d)) e in (listed_told c d x.0, not-true (n.home c d) x.1)
 
 -- Our load is blocked exactly if some channel is held.
 module _ {n : Net} (ok : nets.Conditions n) {before table : List ℕ} {ones : ℕ} (t : Traced n before table ones) (number : ℕ → ℕ) (load : List LoadRecord) (ours : Ours (escape n (said table)) number load) where

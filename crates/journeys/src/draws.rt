@@ -5,8 +5,13 @@ use loads::LoadRecord;
 use networks::Network;
 use std::alloc::{AllocError, Global};
 
-// How many records a load has beyond the channels.
+// How many records there are beyond the channels.
 const BEYOND: usize = 2;
+
+/// In a sparse load one record of eight has a packet, in a dense one every other.
+pub const SPARSE: u16 = 7;
+
+pub const DENSE: u16 = 1;
 
 /// Numbers of a linear congruential generator, and what is made of them.
 #[derive(Clone, Copy)]
@@ -24,9 +29,9 @@ impl Draws {
         drawn as u16
     }
 
-    // A packet one time in eight, for the place past the last one too, or nothing.
-    fn record<N: Network>(&mut self, net: &N) -> LoadRecord {
-        if self.up_to(7) == 0 {
+    // A packet, for the place past the last one too, or nothing, which is so many times as frequent.
+    fn record<N: Network>(&mut self, net: &N, empty: u16) -> LoadRecord {
+        if self.up_to(empty) == 0 {
             LoadRecord::holding(self.up_to(net.places()))
         } else {
             LoadRecord::EMPTY
@@ -38,10 +43,11 @@ impl Draws {
         &mut self,
         heap: Global,
         net: &N,
+        empty: u16,
     ) -> Result<Vec<LoadRecord>, AllocError> {
         let mut load = Vec::new(heap);
         for _ in 0..usize::from(net.channels()) + BEYOND {
-            load.push(self.record(net))?;
+            load.push(self.record(net, empty))?;
         }
         Ok(load)
     }

@@ -1,12 +1,11 @@
 //! Calls that are told one by one, with the load that each leaves.
 
+use crate::buffers::load_of;
 use crate::calls::Call::{self, MoveOn, Put, Take};
+use crate::shown::Places;
 use crate::small::{exit, in_part, own_way, way_out};
-use loads::LoadRecord;
 use networks::Network;
 use spidergon::Spidergon;
-use std::alloc::{AllocError, Global};
-use std::fmt;
 
 // The greatest channel and place, and the greatest position.
 const FAR: u16 = u16::MAX;
@@ -150,29 +149,6 @@ const RING: Journey = Journey {
     ],
 };
 
-// A load as it is told: a space and the place of each packet, or a dash.
-#[derive(Clone, Copy)]
-struct Shown<'a>(&'a [LoadRecord]);
-
-impl fmt::Display for Shown<'_> {
-    fn fmt<W: fmt::Write>(&self, f: &mut fmt::Formatter<W>) -> fmt::Result {
-        for record in self.0 {
-            match record.place() {
-                Some(place) => write!(f, " {place}")?,
-                None => f.write_str(" -")?,
-            }
-        }
-        Ok(())
-    }
-}
-
-fn load_of(heap: Global, places: &[Option<u16>]) -> Result<Vec<LoadRecord>, AllocError> {
-    places
-        .iter()
-        .map(|place| place.map_or(LoadRecord::EMPTY, LoadRecord::holding))
-        .collect(heap)
-}
-
 // Makes the calls, and tells each with its answer and the load that it leaves.
 fn tell_calls<N: Network>(
     rt: &HostRuntime,
@@ -181,10 +157,10 @@ fn tell_calls<N: Network>(
     journey: Journey,
 ) -> anyhow::Result<()> {
     let mut load = load_of(rt.alloc(), journey.places)?;
-    println!(rt; "{name}:{}", Shown(load.as_slice()))?;
+    println!(rt; "{name}:{}", Places(load.as_slice()))?;
     for call in journey.calls {
         let answer = call.make(net, load.as_mut_slice());
-        println!(rt; "{name}, {call}: {answer};{}", Shown(load.as_slice()))?;
+        println!(rt; "{name}, {call}: {answer};{}", Places(load.as_slice()))?;
     }
     Ok(())
 }

@@ -24,6 +24,19 @@ fn table(heap: Global, channels: u16, places: u16, records: &[Record]) -> anyhow
     Ok(Table::new(heap, Size { channels, places }, records)?)
 }
 
+/// Two channels, from each of which packets go to the other.
+pub(super) fn crossing(heap: Global) -> anyhow::Result<Table> {
+    let records = [
+        entry(0, 1),
+        entry(1, 0),
+        home(0, 0),
+        home(1, 1),
+        way(0, 1, 1),
+        way(1, 0, 0),
+    ];
+    table(heap, 2, 2, &records)
+}
+
 /// Two channels, from each of which packets go to the other, and a third to which packets can go in place of the second.
 pub(super) fn exit(heap: Global) -> anyhow::Result<Table> {
     let records = [
@@ -76,4 +89,31 @@ pub(super) fn own_way(heap: Global) -> anyhow::Result<Table> {
         way(1, 0, 0),
     ];
     table(heap, 2, 2, &records)
+}
+
+/// First ways that lead to greater numbers, to the same and to smaller ones that are not the smallest; a home pair with a way, and
+/// a pair that is not allowed.
+pub(super) fn stairs(heap: Global) -> anyhow::Result<Table> {
+    let records = [
+        entry(4, 0),
+        entry(5, 0),
+        entry(5, 1),
+        home(0, 0),
+        home(1, 1),
+        way(1, 0, 0),
+        way(2, 0, 1),
+        way(3, 0, 2),
+        way(4, 0, 3),
+        way(5, 0, 2),
+        way(1, 1, 0),
+        way(2, 1, 1),
+        way(3, 1, 4),
+        way(3, 1, 2),
+        way(4, 1, 5),
+        way(4, 1, 1),
+        way(5, 1, 4),
+        way(5, 1, 3),
+        way(5, 1, 1),
+    ];
+    table(heap, 6, 2, &records)
 }

@@ -1,5 +1,5 @@
 -- The records of a load one by one, and after one of them was written.
-use Rattle.std.proofs.Common.{◌≡◌, ℕ, zero, suc, ◌<◌, List, [], ◌∷◌, length, Some, None, Option, is_some, true, false, option_and_then, get_or, slice_get, set, refl, sym, ap, ◌∙◌, arith}
+use Rattle.std.proofs.Common.{◌≡◌, ℕ, zero, suc, ◌<◌, List, [], ◌∷◌, length, Some, None, Option, is_some, true, false, option_and_then, slice_get, set, refl, sym, ap, ◌∙◌, arith}
 use native.Mathlib.Decide.{dec_lt}
 use Rattle.networks.specs.Nets.{Net, Conditions, WayAt}
 use Rattle.std.proofs.lemmas.List.{length-set, get_or-set_same}
@@ -19,18 +19,14 @@ get_set_other (x ∷ xs) zero (suc k) r ne = refl
 get_set_other (x ∷ xs) (suc i) zero r ne = refl
 get_set_other (x ∷ xs) (suc i) (suc k) r ne = get_set_other xs i k r (λ e. ne (omega arith))
 
--- the packet of a record that is read
-pub packet_at : (load : List LoadRecord) (i : ℕ) (r : LoadRecord) → i < length load → packet_in (get_or load i r) ≡ packet load i
-packet_at load i r l = sym (ap (option_and_then packet_in) (slice_get-get_or load i r l))
+-- what is read of a channel
+pub nothing_read : (load : List LoadRecord) (c : ℕ) (p : Option ℕ) → p ≡ packet load c → is_some p ≡ false → packet load c ≡ None
+nothing_read load c None e none = sym e
+nothing_read load c (Some d) e none = absurd (cc)
 
--- what the record of a channel says when it is read
-pub nothing_read : (load : List LoadRecord) (c i : ℕ) (r : LoadRecord) (p : Option ℕ) → i ≡ c → c < length load → p ≡ packet_in (get_or load i r) → is_some p ≡ false → packet load c ≡ None
-nothing_read load c i r None e l at none = cc (e, at, packet_at load i r (omega arith))
-nothing_read load c i r (Some d) e l at none = absurd (cc)
-
-pub packet_read : (load : List LoadRecord) (c i : ℕ) (r : LoadRecord) (p : Option ℕ) → i ≡ c → c < length load → p ≡ packet_in (get_or load i r) → is_some p ≡ true → (d : ℕ) × (packet load c ≡ Some d)
-packet_read load c i r None e l at some = absurd (cc)
-packet_read load c i r (Some d) e l at some = (d, cc (e, at, packet_at load i r (omega arith)))
+pub packet_read : (load : List LoadRecord) (c : ℕ) (p : Option ℕ) → p ≡ packet load c → is_some p ≡ true → (d : ℕ) × (packet load c ≡ Some d)
+packet_read load c None e some = absurd (cc)
+packet_read load c (Some d) e some = (d, sym e)
 
 -- the way that was asked for of the packet's pair
 pub way_read : (n : Net) (c e d k : ℕ) (r o : Option ℕ) → e ≡ c → r ≡ o → WayAt (n.ways e d) k r → WayAt (n.ways c d) k o

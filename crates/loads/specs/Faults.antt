@@ -6,7 +6,7 @@ use Rattle.networks.specs.Faults.{study_parts}
 use Rattle.loads.specs.declared.faults.LoadFault.{LoadFault}
 use Rattle.loads.specs.declared.faults.LoadFault.TheVariants.{Study, NoSuchChannel, NoSuchPlace, NoEntry, ChannelTaken, ChannelEmpty, Home, NotHome, NoSuchWay, WayTaken}
 
-abbrev study : ℕ → Parts
+abbrev pub study : ℕ → Parts
 study number = record { layer = layer.Study; number = number; line = 0; field = 0 }
 
 abbrev pub load_parts : LoadFault → Parts

@@ -5,8 +5,8 @@ ghost use Rattle.loads.specs.Loads.{At};
 ghost use Rattle.loads.specs.Calls.{packet_count, Puts, Moves, Takes, Only};
 ghost use Rattle.loads.specs.Looking.{NoChannel, NoPacket};
 
-use crate::LoadRecord;
 use crate::faults::LoadFault;
+use crate::{LoadRecord, place_in};
 use networks::Network;
 use networks::faults::Buffer;
 use networks::pairs::Pair;
@@ -44,8 +44,7 @@ fn packet_of<N: Network>(net: &N, load: &[LoadRecord], channel: u16) -> Result<P
         (NoPacket n load.now channel) }
 {
     check_channel(net, load, channel)?;
-    let place = load[usize::from(channel)].place();
-    let place = place.ok_or(LoadFault::ChannelEmpty)?;
+    let place = place_in(load, channel).ok_or(LoadFault::ChannelEmpty)?;
     Ok(Pair { channel, place })
 }
 
@@ -61,11 +60,10 @@ pub fn put<N: Network>(net: &N, load: &mut [LoadRecord], pair: Pair) -> Result<(
     if !net.entry(pair) {
         return Err(LoadFault::NoEntry);
     }
-    let channel = usize::from(pair.channel);
-    if is_full(net, load) || load[channel].place().is_some() {
+    if is_full(net, load) || place_in(load, pair.channel).is_some() {
         return Err(LoadFault::ChannelTaken);
     }
-    load[channel] = LoadRecord::holding(pair.place);
+    load[usize::from(pair.channel)] = LoadRecord::holding(pair.place);
     Ok(())
 }
 
@@ -84,7 +82,7 @@ pub fn move_on<N: Network>(
         return Err(LoadFault::Home);
     }
     let way = net.way(pair, position).ok_or(LoadFault::NoSuchWay)?;
-    if load[usize::from(way)].place().is_some() {
+    if place_in(load, way).is_some() {
         return Err(LoadFault::WayTaken);
     }
     load[usize::from(way)] = LoadRecord::holding(pair.place);

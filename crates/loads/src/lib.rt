@@ -3,7 +3,7 @@
 #![tactic(auto)]
 
 ghost use Rattle.std.specs.Prelude.{◌≡◌, Some};
-ghost use Rattle.loads.specs.Loads.{packet_in};
+ghost use Rattle.loads.specs.Loads.{packet_in, packet};
 
 mod calls;
 pub mod faults;
@@ -34,4 +34,11 @@ impl LoadRecord {
     {
         self.place
     }
+}
+
+/// The place of the packet that stands in a channel, if there is one. A record that is missing counts as empty.
+pub fn place_in(load: &[LoadRecord], channel: u16) -> Option<u16>
+    ensures { result ≡ packet load.now channel }
+{
+    load.get(usize::from(channel))?.place()
 }

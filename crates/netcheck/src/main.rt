@@ -4,9 +4,10 @@
 
 ghost use Rattle.std.specs.Prelude.{◌≡◌, take, IfOk, IfSome};
 
-use answers::{LIMIT, answer};
-use anyhow::bail;
+use answers::{LIMIT, answer, judge_result};
+use anyhow::{Context, Result, bail};
 use std::alloc::Global;
+use std::fs::File;
 use std::io::{Read, Write};
 use std::process::ExitCode;
 use std::{env, io};
@@ -15,6 +16,7 @@ const USAGE: &str = "\
 netcheck: checks a network file for deadlock
 
 usage: netcheck < FILE
+       netcheck --judge RESULT < FILE
        netcheck --help
 
 Reads a network file from standard input and prints a verdict, and then a line for each channel:
@@ -24,6 +26,11 @@ Reads a network file from standard input and prints a verdict, and then a line f
                                              its packet in the blocked load, or -
 or, if it refuses the file, one line:
   fault  LAYER  NUMBER  LINE  FIELD
+With --judge it also reads RESULT, which says of the network what netcheck prints of one, and prints
+what is judged of its numbers or, if it says blocked, of its load, and then a line for each channel:
+  judge  sound|unsound|blocked|unblocked  CHANNEL  PLACE     the channel that offends and its place
+  c  CHANNEL  NUMBER  PLACE  NUMBER  PLACE                   ours, and those of RESULT
+or, if it refuses one of the files, one line as above.
 The fields are parted by tabs. At most 32,768 bytes, 2,048 records, 128 channels and 32 places.
 docs/FORMAT.md has the format, docs/RULES.md what the numbers mean, docs/REFUSALS.md the faults.
 The exit status is 0 for all these answers, and 1 where the system fails.
@@ -41,29 +48,46 @@ fn read_input<R: Read>(heap: Global, input: &mut R) -> io::Result<Vec<u8>>
     Ok(bytes)
 }
 
-fn check_input(rt: &HostRuntime) -> anyhow::Result<()> {
+// Reads a file, or so many bytes of it.
+fn read_file(rt: &HostRuntime, path: &str) -> io::Result<Vec<u8>> {
+    read_input(rt.alloc(), &mut File::open(rt, path)?)
+}
+
+fn check_input(rt: &HostRuntime) -> Result<()> {
     let input = read_input(rt.alloc(), &mut rt.stdin())?;
     let text = answer(rt.alloc(), input.as_slice())?;
     rt.stdout().write_all(text.as_bytes())?;
     Ok(())
 }
 
-fn run(rt: &HostRuntime) -> anyhow::Result<()> {
-    let Some(word) = env::args(rt)?.nth(1) else {
+fn judge_file(rt: &HostRuntime, path: &str) -> Result<()> {
+    let file = read_file(rt, path).context(format_args!("{path}"))?;
+    let input = read_input(rt.alloc(), &mut rt.stdin())?;
+    let text = judge_result(rt.alloc(), input.as_slice(), file.as_slice())?;
+    rt.stdout().write_all(text.as_bytes())?;
+    Ok(())
+}
+
+fn run(rt: &HostRuntime) -> Result<()> {
+    let mut words = env::args(rt)?.skip(1);
+    let Some(word) = words.next() else {
         return check_input(rt);
     };
-    if word.as_str() != "--help" {
-        bail!("unknown argument; netcheck --help tells how it is used");
+    match (word.as_str(), words.next(), words.next()) {
+        ("--help", None, None) => {
+            rt.stdout().write_all(USAGE.as_bytes())?;
+            Ok(())
+        }
+        ("--judge", Some(path), None) => judge_file(rt, path.as_str()),
+        _ => bail!("unknown arguments; netcheck --help tells how it is used"),
     }
-    rt.stdout().write_all(USAGE.as_bytes())?;
-    Ok(())
 }
 
 fn main(rt: HostRuntime) -> ExitCode {
     match run(&rt) {
         Ok(()) => ExitCode::SUCCESS,
         Err(e) => {
-            let _ = eprintln!(rt; "netcheck: {e}");
+            let _ = eprintln!(rt; "netcheck: {e:#}");
             ExitCode::FAILURE
         }
     }

@@ -1,7 +1,6 @@
-use Rattle.std.proofs.Common.{◌≡◌, ◌++◌, string_bytes, slice_index, get_or, rules, ap, ◌∙◌}
-use Rattle.loads.specs.Loads.{nothing, packet, packet_in}
+use Rattle.std.proofs.Common.{◌≡◌, ◌++◌, string_bytes, slice_index, rules, ◌∙◌}
+use Rattle.loads.specs.Loads.{packet}
 use Rattle.answers.specs.Prints.{verdict_line, channel_line}
-use Rattle.loads.proofs.Records.{packet_at}
 use Rattle.answers.proofs.Lines.{begun, one_more}
 use Rattle.answers.proofs.verdict_text.Goals as goal
 
@@ -15,6 +14,5 @@ loop-channel-preserved c =
     let f = c.args.findings.now in
     let k = c.loop-channel in
     let text : string_bytes c.push_str.new.self ≡ string_bytes k.text ++ string_bytes c.in_ok-line.line = search rules in
-    let said : string_bytes c.in_ok-line.line ≡ channel_line k.channel (slice_index f.numbers k.channel) (packet_in (get_or f.load k.channel nothing)) = rw c.from-position.ensures at c.in_ok-line.ensures in
-    let line : string_bytes c.in_ok-line.line ≡ channel_line k.channel (slice_index f.numbers k.channel) (packet f.load k.channel) = said ∙ ap (channel_line k.channel (slice_index f.numbers k.channel)) (packet_at f.load k.channel nothing (search rules)) in
+    let line : string_bytes c.in_ok-line.line ≡ channel_line k.channel (slice_index f.numbers k.channel) (packet f.load k.channel) = rw (c.told_of-told.ensures.number, c.told_of-told.ensures.packet) at c.in_ok-line.ensures in
     text ∙ one_more f.numbers f.load (verdict_line f.certificate.check) (string_bytes k.text) (string_bytes c.in_ok-line.line) k.channel k.invariant line

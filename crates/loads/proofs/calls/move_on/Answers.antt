@@ -1,4 +1,4 @@
-use Rattle.std.proofs.Common.{rules, arith, refl, ap, ◌<◌, None, Some}
+use Rattle.std.proofs.Common.{rules, refl, ap, ◌<◌, None, Some}
 use Rattle.loads.specs.Calls.{without_packet}
 use Rattle.std.proofs.lemmas.Result.{err_from_is_err_and}
 use Rattle.loads.proofs.OneAnswer.{only_move}
@@ -36,7 +36,7 @@ returns-then-is_some g c =
     let h = c.in_ok-way.way in
     let way = way_read n c.args.channel c.in_ok-pair.pair.channel c.in_ok-pair.pair.place c.args.position c.way.result (Some h) at.1 c.in_ok-way.ensures.ok_part c.way.ensures in
     let l : h < n.channels = way_inside n ok c.args.channel c.in_ok-pair.pair.place c.args.position h way in
-    let x = packet_read c.args.load.now h c.from.result _ c.place.result c.from.ensures (omega (arith, at.0)) c.place.ensures (search rules) in
+    let x = packet_read c.args.load.now h c.place_in.result c.place_in.ensures (search rules) in
     only_move n ok c.args.load.now c.args.channel c.args.position _ _ (move_taken at.0 at.2 (cc (c.if-home.false, c.home.ensures, at.1)) h way (x.0, (l, x.1)), refl)
 
 pub returns : goal.returns
@@ -55,7 +55,7 @@ returns g c =
         stands = at.2;
         away = cc (c.if-home.false, c.home.ensures, at.1);
         way = way;
-        empty = nothing_read c.args.load.now h c.from.result _ c.place.result c.from.ensures (omega (arith, at.0)) c.place.ensures (search rules);
+        empty = nothing_read c.args.load.now h c.place_in.result c.place_in.ensures (search rules);
       },
-      rw c.from-3.ensures (ap (λ load. without_packet load c.args.channel) (written c.args.load.now h c.in_ok-pair.pair.place c.from-2.result c.holding.result c.from-2.ensures c.holding.ensures)),
+      rw c.from-2.ensures (ap (λ load. without_packet load c.args.channel) (written c.args.load.now h c.in_ok-pair.pair.place c.from.result c.holding.result c.from.ensures c.holding.ensures)),
     )

@@ -1,4 +1,4 @@
-use Rattle.std.proofs.Common.{rules, arith, refl}
+use Rattle.std.proofs.Common.{rules, refl}
 use Rattle.std.proofs.lemmas.Result.{err_from_is_err_and}
 use Rattle.loads.specs.Calls.{full, taken}
 use Rattle.loads.proofs.OneAnswer.{only_put}
@@ -32,7 +32,7 @@ returns-then-is_full g c =
           (elim c.then-is_full.branch [
             | then-is_full-via-then-is_full w ↦ full (c.is_full.ensures.0 w.if-is_full.true)
             | then-is_full-via-else-is_full+then-is_some w ↦
-                let x = packet_read c.args.load.now c.args.pair.channel c.from-channel.result _ w.place.result (search rules) (omega arith) w.place.ensures (search rules) in
+                let x = packet_read c.args.load.now c.args.pair.channel w.place_in.result w.place_in.ensures (search rules) in
                 taken (x.0, (l, x.1))
           ]),
       refl,
@@ -45,7 +45,7 @@ returns g c =
       record {
         records = c.in_ok-check_channel.ensures.0;
         entry = search rules;
-        empty = nothing_read c.args.load.now c.args.pair.channel c.from-channel.result _ c.place.result (search rules) (omega arith) c.place.ensures (search rules);
+        empty = nothing_read c.args.load.now c.args.pair.channel c.place_in.result c.place_in.ensures (search rules);
       },
-      written c.args.load.now c.args.pair.channel c.args.pair.place c.from-channel.result c.holding.result (search rules) c.holding.ensures,
+      written c.args.load.now c.args.pair.channel c.args.pair.place c.from.result c.holding.result (search rules) c.holding.ensures,
     )

@@ -1,0 +1,4 @@
+pub mod Drains
+pub mod Emptying
+pub mod Faults
+pub mod Orders

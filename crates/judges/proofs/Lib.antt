@@ -1,0 +1,3 @@
+mod Judging
+mod NeedSearch
+mod PacketSearch
