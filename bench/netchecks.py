@@ -1,5 +1,6 @@
 #!/usr/bin/env python3
-"""Compares two builds of netcheck: the same files to both in turns, the same answers, and how long each takes from start to end."""
+"""Compares two builds of netcheck, or the plain program and netcheck: the same files to both in turns, the same answers, and how long
+each takes from start to end."""
 
 import argparse
 import random
@@ -16,7 +17,7 @@ def text(records):
 
 
 def chains():
-    """Each channel leads to the next, for as many places as the records suffice for: the worst case of numbering."""
+    """Each channel leads to the next, for as many places as the records suffice for."""
     places = RECORDS // (CHANNELS + 1)
     records = []
     for place in range(places):

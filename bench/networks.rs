@@ -1,6 +1,6 @@
 //! The networks that both sides are asked about.
 
-use crate::plain::Record;
+use crate::plain::networks::Record;
 
 /// Where a network comes from.
 pub enum Source {
@@ -64,12 +64,6 @@ impl Drawing {
         self.entries.push(PairWords { channel, place });
     }
 
-    fn entries(&mut self, count: u32, random: &mut Random) {
-        for _ in 0..count {
-            self.entry(random.below(self.channels), random.below(self.places));
-        }
-    }
-
     fn home(&mut self, channel: u16, place: u16) {
         self.homes.push(PairWords { channel, place });
     }
@@ -80,6 +74,21 @@ impl Drawing {
 
     fn len(&self) -> usize {
         self.entries.len() + self.homes.len() + self.ways.len()
+    }
+
+    /// The bytes of the network file that says it.
+    pub fn file(&self) -> Vec<u8> {
+        let mut text = format!("n\t{}\t{}\n", self.channels, self.places);
+        for pair in &self.entries {
+            text += &format!("e\t{}\t{}\n", pair.channel, pair.place);
+        }
+        for pair in &self.homes {
+            text += &format!("h\t{}\t{}\n", pair.channel, pair.place);
+        }
+        for way in &self.ways {
+            text += &format!("w\t{}\t{}\t{}\n", way.channel, way.place, way.next);
+        }
+        text.into_bytes()
     }
 
     pub fn records(&self) -> Vec<Record> {
@@ -96,14 +105,14 @@ impl Drawing {
         records
     }
 
-    // Adds ways until the records are as many as a table takes. `next` answers a pair and where a way of it leads.
-    fn fill(&mut self, mut next: impl FnMut() -> (u16, u16, u16)) {
+    // Adds ways until there are so many records. `next` answers a pair and where a way of it leads.
+    fn fill(&mut self, records: usize, mut next: impl FnMut() -> (u16, u16, u16)) {
         let mut counts = vec![0u8; usize::from(self.channels) * usize::from(self.places)];
         let position = |channel: u16, place: u16| usize::from(channel) * usize::from(self.places) + usize::from(place);
         for way in &self.ways {
             counts[position(way.channel, way.place)] += 1;
         }
-        let missing = MAX_RECORDS - self.len();
+        let missing = records - self.len();
         let mut more = Vec::new();
         while more.len() < missing {
             let (channel, place, next) = next();
@@ -148,6 +157,30 @@ fn chain(channels: u16, places: u16) -> Drawing {
     for channel in 0..channels - 1 {
         for place in 0..places {
             net.way(channel, place, channel + 1);
+        }
+    }
+    net
+}
+
+/// Chains for the first places. For the others, as many as there are, the channels are a circle in which packets never arrive.
+fn chains_and_circles(channels: u16, chains: u16, circles: u16) -> Drawing {
+    let mut net = chain(channels, chains);
+    net.places = chains + circles;
+    for place in chains..chains + circles {
+        net.entry(0, place);
+        for channel in 0..channels {
+            net.way(channel, place, (channel + 1) % channels);
+        }
+    }
+    net
+}
+
+/// Chains in which packets may also go back: each need has two ways, and cycles go through them.
+fn chain_and_back(channels: u16, places: u16) -> Drawing {
+    let mut net = chain(channels, places);
+    for channel in 1..channels - 1 {
+        for place in 0..places {
+            net.way(channel, place, channel - 1);
         }
     }
     net
@@ -213,15 +246,17 @@ fn mesh(side: u16) -> Drawing {
     net
 }
 
-/// As many records as a table takes, at random.
-fn scattered(channels: u16, places: u16, seed: u64) -> Drawing {
+/// So many records at random: an eighth are entries, and every 32nd is home.
+fn scattered(channels: u16, places: u16, records: usize, seed: u64) -> Drawing {
     let mut random = Random(seed);
     let mut net = Drawing::new(channels, places);
-    net.entries(8_192, &mut random);
-    for _ in 0..2_048 {
-        net.home(random.below(channels), random.below(places));
+    for at in 0..records / 8 {
+        net.entry(random.below(channels), random.below(places));
+        if at % 4 == 0 {
+            net.home(random.below(channels), random.below(places));
+        }
     }
-    net.fill(|| (random.below(channels), random.below(places), random.below(channels)));
+    net.fill(records, || (random.below(channels), random.below(places), random.below(channels)));
     net
 }
 
@@ -229,7 +264,9 @@ fn scattered(channels: u16, places: u16, seed: u64) -> Drawing {
 fn rising(channels: u16, places: u16, seed: u64) -> Drawing {
     let mut random = Random(seed);
     let mut net = Drawing::new(channels, places);
-    net.entries(1_024, &mut random);
+    for _ in 0..1_024 {
+        net.entry(random.below(channels), random.below(places));
+    }
     for place in 0..places {
         net.home(channels - 1, place);
     }
@@ -238,10 +275,29 @@ fn rising(channels: u16, places: u16, seed: u64) -> Drawing {
             net.way(channel, place, random.between(channel + 1, channels));
         }
     }
-    net.fill(|| {
+    net.fill(MAX_RECORDS, || {
         let channel = random.below(channels - 1);
         (channel, random.below(places), random.between(channel + 1, channels))
     });
+    net
+}
+
+/// Each pair is an entry, is home in the last channel, and else has so many ways to higher channels, at random.
+fn even(channels: u16, places: u16, ways: u16, seed: u64) -> Drawing {
+    let mut random = Random(seed);
+    let mut net = Drawing::new(channels, places);
+    for channel in 0..channels {
+        for place in 0..places {
+            net.entry(channel, place);
+            if channel == channels - 1 {
+                net.home(channel, place);
+                continue;
+            }
+            for _ in 0..ways {
+                net.way(channel, place, random.between(channel + 1, channels));
+            }
+        }
+    }
     net
 }
 
@@ -254,20 +310,40 @@ fn table(name: &'static str, net: Drawing) -> Case {
     }
 }
 
+fn spidergon(name: &'static str, size: u16) -> Case {
+    Case {
+        name,
+        channels: 16 * size,
+        places: 4 * size,
+        source: Source::Spidergon(size),
+    }
+}
+
 pub fn cases() -> Vec<Case> {
     vec![
-        Case {
-            name: "Spidergon, size 64",
-            channels: 1_024,
-            places: 256,
-            source: Source::Spidergon(64),
-        },
-        table("table, scattered", scattered(1_024, 256, 1)),
-        table("table, scattered, dense", scattered(1_024, 16, 2)),
-        table("table, rising", rising(1_024, 16, 3)),
-        table("table, chain", chain(1_024, 1)),
-        table("table, 63 chains", chain(1_024, 63)),
-        table("table, ring of 128", ring(128)),
-        table("table, mesh 10 by 10", mesh(10)),
+        spidergon("Spidergon, size 1", 1),
+        spidergon("Spidergon, size 2", 2),
+        spidergon("Spidergon, size 4", 4),
+        spidergon("Spidergon, size 8", 8),
+        spidergon("Spidergon, size 16", 16),
+        spidergon("Spidergon, size 32", 32),
+        spidergon("Spidergon, size 64", 64),
+        table("scattered, 1 KB", scattered(16, 4, 94, 1)),
+        table("scattered, 10 KB", scattered(64, 16, 860, 2)),
+        table("scattered, 100 KB", scattered(256, 64, 7_500, 3)),
+        table("scattered, 1 MB", scattered(1_024, 256, MAX_RECORDS, 4)),
+        table("scattered, dense", scattered(1_024, 16, MAX_RECORDS, 5)),
+        table("rising", rising(1_024, 16, 6)),
+        table("1 way a pair", even(1_024, 7, 1, 7)),
+        table("2 ways a pair", even(1_024, 7, 2, 7)),
+        table("4 ways a pair", even(1_024, 7, 4, 7)),
+        table("8 ways a pair", even(1_024, 7, 8, 7)),
+        table("chain", chain(1_024, 1)),
+        table("63 chains", chain(1_024, 63)),
+        table("31 chains, 32 circles", chains_and_circles(1_024, 31, 32)),
+        table("chain and back", chain_and_back(1_024, 1)),
+        table("32 chains and back", chain_and_back(1_024, 32)),
+        table("ring of 128", ring(128)),
+        table("mesh 10 by 10", mesh(10)),
     ]
 }

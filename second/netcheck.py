@@ -80,8 +80,9 @@ def text_in_order(data: bytes) -> bool:
     return bool(lines) and not any(text_fault(line, *parts) for line, parts in enumerate(lines, start=1))
 
 
-def judge(data: bytes):
-    """The layer, number, line and field of the fault of a file of any length, by 10 to 18, or None."""
+def judge(data: bytes, room=LIST_LENGTH):
+    """The layer, number, line and field of the fault of a file of any length, by 10 to 18, or None. More records than `room` are
+    too many."""
     lines = lines_of(data)
     if not lines:
         return b"text", 10, 1, 1
@@ -104,8 +105,8 @@ def judge(data: bytes):
         if found:
             number, field = found
             return b"table", number, line, field
-    if len(lines) - 1 > LIST_LENGTH:
-        return b"table", 18, LIST_LENGTH + 2, 0
+    if len(lines) - 1 > room:
+        return b"table", 18, room + 2, 0
     return None
 
 
@@ -119,8 +120,8 @@ def allowed_pairs(entries, homes, ways):
         allowed |= reached
 
 
-def needs_of(channels, records):
-    """For each channel its needs: by place, the ways of each allowed pair that is not home."""
+def parts_of(records):
+    """The entries, the home pairs, and by pair its ways."""
     entries = {numbers for letter, numbers in records if letter == b"e"}
     homes = {numbers for letter, numbers in records if letter == b"h"}
     ways = defaultdict(set)
@@ -128,6 +129,12 @@ def needs_of(channels, records):
         if letter == b"w":
             channel, place, next_channel = numbers
             ways[channel, place].add(next_channel)
+    return entries, homes, ways
+
+
+def needs_of(channels, records):
+    """For each channel its needs: by place, the ways of each allowed pair that is not home."""
+    entries, homes, ways = parts_of(records)
     needs = [{} for _ in range(channels)]
     for channel, place in allowed_pairs(entries, homes, ways) - homes:
         needs[channel][place] = ways[channel, place]
@@ -200,6 +207,12 @@ def refusal(data):
     if channels > CHANNEL_LIMIT or places > PLACE_LIMIT:
         return b"study", 20, 0, 5
     return None
+
+
+def allowed_in(data):
+    """The allowed pairs of an accepted file."""
+    _, records = size_and_records(data)
+    return allowed_pairs(*parts_of(records))
 
 
 def needs_in(data):

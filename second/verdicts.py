@@ -4,6 +4,7 @@
 import argparse
 import sys
 from collections import defaultdict
+from functools import cached_property
 from itertools import product
 from pathlib import Path
 
@@ -74,26 +75,32 @@ class Network:
             self.ways[channel, place].append(next_channel)
         self.allowed = allowed_pairs(self.entries, self.homes, self.ways)
         self.moving = self.allowed - self.homes
-        self.find_channels()
-        self.find_routes()
 
-    def find_channels(self):
-        """By Escape: the items are the channels."""
-        self.needs = [{place: self.ways[channel, place] for place in range(self.places) if (channel, place) in self.moving}
-                      for channel in range(self.channels)]
+    @cached_property
+    def needs(self):
+        """Those of Escape, whose items are the channels."""
+        return [{place: self.ways[channel, place] for place in range(self.places) if (channel, place) in self.moving}
+                for channel in range(self.channels)]
+
+    @cached_property
+    def numbers(self):
         number = numbering({channel: list(needs.values()) for channel, needs in enumerate(self.needs)})
-        self.numbers = [number.get(channel) for channel in range(self.channels)]
-        self.load = [None if channel in number else
-                     min(place for place, ways in needs.items() if all(way not in number for way in ways))
-                     for channel, needs in enumerate(self.needs)]
+        return [number.get(channel) for channel in range(self.channels)]
 
-    def find_routes(self):
-        """By Route: the items are the pairs, and a pair needs each of its ways."""
+    @cached_property
+    def load(self):
+        return [None if number is not None else
+                min(place for place, ways in needs.items() if all(self.numbers[way] is None for way in ways))
+                for number, needs in zip(self.numbers, self.needs)]
+
+    @cached_property
+    def pair_numbers(self):
+        """By Route, whose items are the pairs: a pair needs each of its ways."""
         needs = {pair: [] for pair in self.pairs}
         for channel, place in self.moving:
             needs[channel, place] = [[(way, place)] for way in self.ways[channel, place]] or [[]]
         number = numbering(needs)
-        self.pair_numbers = [number.get(pair) for pair in self.pairs]
+        return [number.get(pair) for pair in self.pairs]
 
     def check_answer(self):
         held = self.numbers.count(None)

@@ -12,7 +12,7 @@ ghost use Rattle.answers.specs.declared.judging.Refusal.TheVariants.{Study, Resu
 
 use crate::results::{Claims, ResultFault, read_result};
 use crate::{
-    Findings, LIMIT, MAX_PAIRS, Mark, Told, certify_table, fault_line, read_table, told_of,
+    Findings, LIMIT, MAX_PAIRS, Mark, Told, certify_table, fault_line, take_table, told_of,
 };
 use checks::Verdict;
 use judges::{LoadJudged, NumbersJudged, judge_load, judge_numbers};
@@ -136,7 +136,7 @@ fn judge(table: &Table, claims: &Claims) -> Result<Ruling, StudyFault>
 fn conclude(heap: Global, input: &[u8], file: &[u8]) -> Result<Judgement, Refusal>
     ensures { MatchResult result (Concludes input.now file.now) (Refuses input.now file.now) }
 {
-    let table = read_table(heap, input)?;
+    let table = take_table(heap, input)?;
     let findings = certify_table(&table)?;
     Buffer::File.check(file.len(), LIMIT)?;
     let claims = read_result(file, findings.channels)?;

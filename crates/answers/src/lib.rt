@@ -18,12 +18,12 @@ pub use crate::judging::judge_result;
 use certificates::{Certificate, certify};
 use checks::Check;
 use loads::LoadRecord;
-use netfiles::read_network;
+use netfiles::read_table;
 use networks::Network;
 use networks::faults::{Buffer, StudyFault};
 use numbering::{HELD, Numbering};
+use records::Size;
 use records::faults::{Fault, Parts};
-use records::{Record, Size};
 use std::alloc::{AllocError, Global};
 use std::fmt;
 use tables::Table;
@@ -174,25 +174,20 @@ fn certify_table(table: &Table) -> Result<Findings, StudyFault>
 }
 
 // The table of the network file in an input, or why it is not taken.
-fn read_table(heap: Global, input: &[u8]) -> Result<Table, StudyFault>
+fn take_table(heap: Global, input: &[u8]) -> Result<Table, StudyFault>
     ensures { MatchResult result (λ t. Takes input.now (meaning_of t) × Fits t.size) (λ f. Rejects input.now f ⊎ Starves input.now f) }
 {
     Buffer::File.check(input.len(), LIMIT)?;
-    // reading fills a lent list, as a caller with fixed memory has it
-    let mut list = [Record::Entry {
-        channel: 0,
-        place: 0,
-    }; MAX_RECORDS];
-    let summary = read_network(heap, input, &mut list)?;
-    check_size(summary.size)?;
-    Ok(Table::new(heap, summary.size, &list[..summary.records])?)
+    let read = read_table(heap, input, MAX_RECORDS)?;
+    check_size(read.summary.size)?;
+    Ok(read.table)
 }
 
 // What is found of the network file in an input, or why it is not taken.
 fn study(heap: Global, input: &[u8]) -> Result<Findings, StudyFault>
     ensures { MatchResult result (λ a. (n : Net) × Accepts input.now n a) (λ f. Rejects input.now f ⊎ Starves input.now f) }
 {
-    let table = read_table(heap, input)?;
+    let table = take_table(heap, input)?;
     certify_table(&table)
 }
 

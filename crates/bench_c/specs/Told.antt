@@ -1,5 +1,5 @@
--- How answers cross to a program that is not Rattle, and what they tell. A name with a prime is that of a buffer afterwards.
-use Rattle.std.specs.Prelude.{◌≡◌, ℕ, ◌<◌, ◌≤◌, true, false, Bool, List, ◌++◌, length, min, Some, None, Ok, Err, Option, Result, map, slice_get}
+-- What answers tell a program that is not Rattle. A name with a prime is that of a buffer afterwards.
+use Rattle.std.specs.Prelude.{◌≡◌, ℕ, true, false, Bool, List, length, min, Ok, Err, Result}
 use Rattle.networks.specs.Cleared.{AllZero}
 use Rattle.networks.specs.Nets.{Net, most_channels}
 use Rattle.networks.specs.declared.faults.StudyFault.{StudyFault}
@@ -8,22 +8,14 @@ use Rattle.loads.specs.declared.LoadRecord.{LoadRecord}
 use Rattle.checks.specs.declared.outcome.Verdict.{Verdict}
 use Rattle.checks.specs.declared.outcome.Verdict.TheVariants.{Free, Blocked}
 use Rattle.checks.specs.Checks.{Checks}
-use Rattle.loads.specs.Loads.{packet}
-use Rattle.records.specs.declared.Record.{Record}
-use Rattle.records.specs.declared.Record.TheVariants.{Entry, Home, Way}
 use Rattle.routes.specs.declared.outcome.Routes.{Routes}
 use Rattle.routes.specs.Outcomes.{RoutesGive}
-use Rattle.tables.specs.Drawn.{drawn}
-use Rattle.tables.specs.Makes.{Acceptable}
-use Rattle.tables.specs.Meaning.{meaning_of}
-use Rattle.tables.specs.declared.table.Table.{Table}
 use Rattle.tracing.specs.Traces.{Traces}
+use Rattle.crossings.specs.Crossing.{Standing}
+use Rattle.crossings.specs.declared.Stand.{Stand}
 use Rattle.bench_c.specs.declared.crossing.TraceAnswer.{TraceAnswer}
 use Rattle.bench_c.specs.declared.crossing.CheckAnswer.{CheckAnswer}
 use Rattle.bench_c.specs.declared.crossing.RoutesAnswer.{RoutesAnswer}
-use Rattle.bench_c.specs.declared.crossing.Stand.{Stand}
-use Rattle.bench_c.specs.declared.crossing.PairWords.{PairWords}
-use Rattle.bench_c.specs.declared.crossing.WayWords.{WayWords}
 
 -- After a refusal every part of an answer is 0.
 abbrev pub trace_refused : TraceAnswer
@@ -51,10 +43,6 @@ abbrev pub routes_told : Result Routes StudyFault → RoutesAnswer
 routes_told (Ok a) = record { answered = true; arriving = a.arriving; held = a.held }
 routes_told (Err f) = routes_refused
 
-abbrev pub stand_of : Option ℕ → Stand
-stand_of (Some d) = record { full = true; place = d }
-stand_of None = record { full = false; place = 0 }
-
 -- The answer is that of tracing the network into the table.
 abbrev pub TraceTold : Net → List ℕ → List ℕ → TraceAnswer → List ℕ → List ℕ → Type 0
 TraceTold n allowed work a allowed' work' = (r : Result ℕ StudyFault) × (a ≡ trace_told r) × Traces n allowed (length work) r allowed' × AllZero work'
@@ -62,11 +50,6 @@ TraceTold n allowed work a allowed' work' = (r : Result ℕ StudyFault) × (a �
 -- Nothing is traced, and the buffers are as they were.
 abbrev pub TraceRefused : List ℕ → List ℕ → TraceAnswer → List ℕ → List ℕ → Type 0
 TraceRefused allowed work a allowed' work' = (a ≡ trace_refused) × (allowed' ≡ allowed) × (work' ≡ work)
-
--- The stands of so many channels tell what the load has in them. What lies beyond is as it was.
-pub record Standing (channels : ℕ) (load : List LoadRecord) (before after : List Stand) : Type 0 where
-  pub told : (k : ℕ) → k < channels → slice_get after k ≡ Some (stand_of (packet load k))
-  pub beyond : (k : ℕ) → channels ≤ k → slice_get after k ≡ slice_get before k
 
 -- After a refusal all stands are as they were.
 abbrev pub Stands : ℕ → Result Check StudyFault → List LoadRecord → List Stand → List Stand → Type 0
@@ -95,19 +78,3 @@ RoutesTold n allowed numbers work a allowed' numbers' work' =
 -- No routes are looked for, and the buffers are as they were.
 abbrev pub RoutesRefused : List ℕ → List ℕ → List ℕ → RoutesAnswer → List ℕ → List ℕ → List ℕ → Type 0
 RoutesRefused allowed numbers work a allowed' numbers' work' = (a ≡ routes_refused) × (allowed' ≡ allowed) × (numbers' ≡ numbers) × (work' ≡ work)
-
--- The records that are given as three lists: the entries, the homes and the ways.
-abbrev pub records_of : List PairWords → List PairWords → List WayWords → List Record
-records_of entries homes ways = map (λ p. Entry p.channel p.place) entries ++ (map (λ p. Home p.channel p.place) homes ++ map (λ w. Way w.channel w.place w.next) ways)
-
--- The size and these records make a table.
-abbrev pub Drawable : ℕ → ℕ → List PairWords → List PairWords → List WayWords → Type 0
-Drawable channels places entries homes ways = Acceptable (record { channels = channels; places = places }) (records_of entries homes ways)
-
--- the network that the size and these records draw
-abbrev pub net_of : ℕ → ℕ → List PairWords → List PairWords → List WayWords → Net
-net_of channels places entries homes ways = drawn (record { channels = channels; places = places }) (records_of entries homes ways)
-
--- They make this table.
-abbrev pub TableOf : ℕ → ℕ → List PairWords → List PairWords → List WayWords → Table → Type 0
-TableOf channels places entries homes ways t = Drawable channels places entries homes ways × (meaning_of t ≡ net_of channels places entries homes ways)

@@ -3,8 +3,9 @@
 ghost use Rattle.std.specs.Prelude.{◌≡◌, ◌≤◌, ⊤, length, MatchResult};
 ghost use Rattle.bench_c.specs.Told.{TraceTold, CheckTold, RoutesTold, Stands};
 
-use crate::crossing::{CheckAnswer, RoutesAnswer, Stand, TraceAnswer};
+use crate::crossing::{CheckAnswer, RoutesAnswer, TraceAnswer};
 use checks::{Check, check};
+use crossings::{Stand, tell_stands};
 use loads::LoadRecord;
 use networks::Network;
 use networks::faults::StudyFault;
@@ -42,11 +43,8 @@ fn tell_load(
     requires stands { MatchResult given (λ _. channels ≤ length stands.old) (λ _. ⊤) }
     ensures { Stands channels given load.now stands.old stands.new }
 {
-    if given.is_err() {
-        return;
-    }
-    for channel in 0..channels {
-        stands[channel] = Stand::of(load[channel]);
+    if given.is_ok() {
+        tell_stands(load, channels, stands);
     }
 }
 

@@ -4,8 +4,9 @@
 
 #![tactic(auto)]
 
-ghost use Rattle.std.specs.Prelude.{◌≡◌, ◌⊎◌, ⊤, true, MatchOption};
-ghost use Rattle.bench_c.specs.Told.{TraceTold, TraceRefused, CheckTold, CheckRefused, RoutesTold, RoutesRefused, Drawable, TableOf, net_of};
+ghost use Rattle.std.specs.Prelude.{◌≡◌, ◌⊎◌, true};
+ghost use Rattle.bench_c.specs.Told.{TraceTold, TraceRefused, CheckTold, CheckRefused, RoutesTold, RoutesRefused};
+ghost use Rattle.crossings.specs.Crossing.{Drawable, net_of};
 ghost use Rattle.spidergon.specs.Building.{Sized};
 ghost use Rattle.spidergon.specs.Rings.{spidergon};
 
@@ -13,9 +14,8 @@ mod asking;
 pub mod crossing;
 
 use crate::asking::{ask_check, ask_routes, ask_trace};
-use crate::crossing::{
-    CheckAnswer, PairWords, RoutesAnswer, Stand, TraceAnswer, WayWords, records_of,
-};
+use crate::crossing::{CheckAnswer, RoutesAnswer, TraceAnswer};
+use crossings::{PairWords, Stand, WayWords, records_of, table_of};
 use records::Size;
 use spidergon::Spidergon;
 use std::alloc::Global;
@@ -73,21 +73,6 @@ pub extern "C" fn bench_c_spidergon_routes(
         Ok(net) => ask_routes(&net, again, allowed, numbers, work),
         Err(_) => RoutesAnswer::REFUSED,
     }
-}
-
-// The table of a size and of records in three lists.
-fn table_of(
-    heap: Global,
-    channels: u16,
-    places: u16,
-    entries: &[PairWords],
-    homes: &[PairWords],
-    ways: &[WayWords],
-) -> Option<Table>
-    ensures { MatchOption result ⊤ (TableOf channels places entries.now homes.now ways.now) }
-{
-    let records = records_of(heap, entries, homes, ways).ok()?;
-    Table::new(heap, Size { channels, places }, &records).ok()
 }
 
 /// Makes a table `again` times more than once. Answers whether the last one was made: never one of records that make none.

@@ -1,6 +1,6 @@
 pub mod Allowing
 mod Bounds
-mod Certifying
+pub mod Certifying
 mod Composed
 pub mod Costs
 mod Emptying

@@ -109,7 +109,9 @@ pub fn check<N: Network>(
     Buffer::Load.check(channels, load.len())?;
     Buffer::Work.check(pairs, guard.words.len())?;
     trace(net, allowed, guard.words)?;
-    let numbering = number(&Escape { net }, allowed, numbers, guard.words)?;
+    // no more words than numbering needs, since it clears all that it is lent
+    let list = &mut guard.words[..channels];
+    let numbering = number(&Escape { net }, allowed, numbers, list)?;
     write_load(net, allowed, numbers, load);
     let verdict = verdict_on(numbering.held);
     Ok(Check { verdict, numbering })

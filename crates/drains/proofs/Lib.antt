@@ -1,8 +1,8 @@
 mod Advancing
-mod Draining
+pub mod Draining
 mod Homeward
 mod Single
-mod Standing
+pub mod Standing
 mod Steps
 mod Sweeping
 mod Walking

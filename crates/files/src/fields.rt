@@ -1,12 +1,11 @@
 //! A line taken apart: its letter, and the numbers behind it.
 
-ghost use Rattle.std.specs.Prelude.{◌≡◌, ℕ, [], ◌∷◌, MatchOption, MatchResult, ◌≢◌, slice_index_or};
-ghost use Rattle.lines.specs.Numbers.{Spelled, Spells};
+ghost use Rattle.std.specs.Prelude.{◌≡◌, ℕ, ◌+◌, ◌^◌, ◌<◌, ◌&&◌, nat_eq, if◌then◌else◌, [], ◌∷◌, MatchOption, MatchResult, ◌≢◌, slice_index_or};
 ghost use Rattle.lines.specs.Pieces.{raw, fields_of, fields_left};
 ghost use Rattle.files.specs.Says.{behind, HasNumbers, NumbersFault};
-ghost use Rattle.records.specs.declared.faults.TextFault.TheVariants.{NoNumber};
+ghost use Rattle.records.specs.declared.faults.TextFault.TheVariants.{NoNumber, WrongShape};
 
-use lines::{Field, Fields, Line, read_number};
+use lines::{Fields, Line, read_number};
 use records::faults::TextFault;
 
 // The letter that is a line's first field, and what stands behind its tab, if one follows it.
@@ -20,14 +19,19 @@ pub(super) fn split_letter(line: &[u8]) -> Option<(char, Option<&[u8]>)>
     }
 }
 
-// The number that a field of the line spells.
-fn number_in(field: Field, line: usize) -> Result<u16, TextFault>
-    ensures { MatchResult result (λ n. Spells field.entry.bytes.now n) (λ f. (f ≡ NoNumber line field.entry.number) × (Spelled field.entry.bytes.now → ⊥)) }
+// What is wrong with a line whose field at a position behind the letter spells no number, where so many fields follow: the
+// field, if there are N of them in all.
+fn fault_of<const N: usize>(line: Line, field: usize, at: usize, after: usize) -> TextFault
+    requires fits { at + 1 + after < 2 ^ 64 }
+    ensures { result ≡ (if line.entry.finished && nat_eq (at + 1 + after) N then NoNumber line.entry.number field else WrongShape line.entry.number) }
 {
-    read_number(field.bytes).ok_or(TextFault::NoNumber {
-        line,
-        field: field.number,
-    })
+    if line.finished && at + 1 + after == N {
+        return TextFault::NoNumber {
+            line: line.number,
+            field,
+        };
+    }
+    TextFault::WrongShape { line: line.number }
 }
 
 // The N numbers of a line, where `rest` is what stands behind its letter.
@@ -38,13 +42,21 @@ pub(super) fn numbers<const N: usize>(
     requires { behind (raw line) ≡ fields_left (λ x. x.now) rest }
     ensures { MatchResult result (λ ns. HasNumbers (raw line.entry) ns) (λ f. NumbersFault N line.entry.number (raw line.entry) f) }
 {
-    if !line.finished || Fields::after_first(rest).count() != N {
-        return Err(TextFault::WrongShape { line: line.number });
-    }
+    let wrong_shape = TextFault::WrongShape { line: line.number };
     let mut numbers = [0; N];
+    let mut fields = Fields::after_first(rest);
     // by index: nothing is known of what an adapter of iter_mut writes
-    for (at, field) in Fields::after_first(rest).enumerate() {
-        numbers[at] = number_in(field, line.number)?;
+    for at in 0..N {
+        let Some(field) = fields.next() else {
+            return Err(wrong_shape);
+        };
+        let Some(number) = read_number(field.bytes) else {
+            return Err(fault_of::<N>(line, field.number, at, fields.count()));
+        };
+        numbers[at] = number;
+    }
+    if !line.finished || fields.next().is_some() {
+        return Err(wrong_shape);
     }
     Ok(numbers)
 }

@@ -1,13 +1,13 @@
 -- What one to four digits spell.
-use Rattle.std.proofs.Common.{◌≡◌, ℕ, ◌<◌, ◌≤◌, List, length, get_or, Ok, Err, Result, decimal, sym, ap, ◌∙◌, inl, inr, arith}
+use Rattle.std.proofs.Common.{◌≡◌, ℕ, ◌+◌, ◌-◌, ◌*◌, ◌<◌, ◌≤◌, List, length, take, get_or, decimal, sym, refl, ap, ◌∙◌, subst, inl, inr, arith}
+use Rattle.std.specs.Str.Parse.{AllDigits}
+use Rattle.std.proofs.lemmas.Int.Digits.{digits_more, digits_value_more}
+use Rattle.std.proofs.lemmas.List.{take_all, length-take-le}
+use Rattle.std.proofs.lemmas.Str.{digit_value_digit}
 use Rattle.std.specs.Int.{IsInRange}
-use Rattle.std.specs.Option.{MatchOption}
-use Rattle.std.specs.Result.{result_ok}
-use Rattle.std.specs.Str.{IsUtf8}
-use Rattle.std.specs.Str.Parse.{ParsesUnsigned, digits_value}
-use Rattle.std.proofs.lemmas.Fmt.{IsAscii-from_digits, digits_decimal, decimal_digit, length-decimal-le, decimal_nonempty, first_decimal, decimal-digits_value, decimal_injective}
-use Rattle.std.proofs.lemmas.Str.{IsUtf8-from_ascii}
-use Rattle.std.proofs.lemmas.Str.Parse.{IsNumeralModel, numerals_by_value, tells_by_index, parse_plain, digits_value_short}
+use Rattle.std.specs.Str.Parse.{digits_value}
+use Rattle.std.proofs.lemmas.Fmt.{digits_decimal, decimal_digit, length-decimal-le, decimal_nonempty, first_decimal, decimal-digits_value, decimal_injective}
+use Rattle.std.proofs.lemmas.Str.Parse.{IsNumeralModel, numerals_by_value, tells_by_index, digits_value_short}
 use Rattle.std.proofs.lemmas.Bool.{cases_eq}
 use Rattle.lines.specs.Numbers.{Spelled, Spells}
 
@@ -34,19 +34,36 @@ decimal_spelled n h =
 pub spells_one : (bs : List ℕ) (m n : ℕ) → Spells bs m → Spells bs n → m ≡ n
 spells_one bs m n s t = decimal_injective m n (let h = s.small in omega arith) (let h = t.small in omega arith) (sym s.written ∙ t.written)
 
-pub spelled_text : (bs : List ℕ) → Spelled bs → IsUtf8 bs
-spelled_text bs s = IsUtf8-from_ascii bs (IsAscii-from_digits bs (own.to bs s.digits))
+-- The first k bytes are digits, and write the number n.
+pub record Upto (bs : List ℕ) (k n : ℕ) : Type 0 where
+  pub digits : AllDigits 10 (take k bs)
+  pub value : n ≡ digits_value 10 (take k bs)
 
--- what `parse` reads of a short text with no plus and no leading zeros
-pub read : {E : Type 0} (bs : List ℕ) (r : Result ℕ E) → length bs ≤ 4 → (get_or bs 0 0 ≡ 43 → ⊥) → (get_or bs 0 0 ≡ 48 → length bs ≤ 1) → ParsesUnsigned 16 10 bs r → MatchOption (result_ok r) (Spelled bs → ⊥) (λ n. Spelled bs × Spells bs n)
-read {E} bs (Ok n) few plus leading h =
-    let p = parse_plain own {E = E} 16 bs (Ok n) h plus in
-    let some = p.0.1 in
-    let small = digits_value_short own bs 4 p.0.0 few in
-    let lead : get_or bs 0 0 ≡ 48 → length bs ≡ 1 = λ z. let l = leading z in omega arith in (
-      record { some = some; few = few; digits = p.0.0; leading = lead },
-      record { small = omega (arith, small, p.1); written = sym (decimal-digits_value own bs p.0.0 some lead (omega (arith, small))) ∙ ap decimal (sym p.1) },
+pub none_yet : (bs : List ℕ) → Upto bs 0 0
+none_yet bs = record { digits = tt; value = refl }
+
+module _ (bs : List ℕ) (k n : ℕ) (few : length bs ≤ 4) (there : k < length bs) (u : Upto bs k n) where
+  pub upto_small : n < 1000
+  upto_small =
+      let l = digits_value_short own (take k bs) 3 (own.from (take k bs) u.digits) (omega (arith, length-take-le k bs (omega arith))) in
+      omega (arith, u.value, l)
+
+  pub one_more : IsInRange 48 57 (get_or bs k 0) → Upto bs (k + 1) (10 * n + (get_or bs k 0 - 48))
+  one_more d =
+      let v = digit_value_digit (get_or bs k 0) d in
+      record {
+        digits = digits_more 10 bs k there u.digits (omega (arith, v, d.1));
+        value = sym (digits_value_more 10 bs k there ∙ omega (arith, u.value, v));
+      }
+
+-- short digits without a leading zero spell their value
+pub all_spell : (bs : List ℕ) (n : ℕ) → 0 < length bs → length bs ≤ 4 → (get_or bs 0 0 ≡ 48 → length bs ≤ 1) → Upto bs (length bs) n → Spelled bs × Spells bs n
+all_spell bs n some few leading u =
+    let all = take_all (length bs) bs (omega arith) in
+    let digits : (k : ℕ) → k < length bs → IsInRange 48 57 (get_or bs k 0) = own.from bs (subst (AllDigits 10) all u.digits) in
+    let lead : get_or bs 0 0 ≡ 48 → length bs ≡ 1 = λ z. let l = leading z in omega arith in
+    let small = digits_value_short own bs 4 digits few in
+    let value : n ≡ digits_value 10 bs = u.value ∙ ap (digits_value 10) all in (
+      record { some = some; few = few; digits = digits; leading = lead },
+      record { small = omega (arith, small, value); written = sym (decimal-digits_value own bs digits some lead (omega (arith, small))) ∙ ap decimal (sym value) },
     )
-read {E} bs (Err e) few plus leading h = λ s.
-    let small = digits_value_short own bs 4 s.digits few in
-    parse_plain own {E = E} 16 bs (Err e) h plus (s.digits, s.some, omega (arith, small))

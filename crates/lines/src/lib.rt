@@ -170,9 +170,15 @@ impl<'a> Iterator for Fields<'a> {
 pub fn read_number(field: &[u8]) -> Option<u16>
     ensures cases { MatchOption result (Spelled field.now → ⊥) (λ n. Spelled field.now × Spells field.now n) }
 {
-    // `parse` also takes a plus and leading zeros
-    if field.len() > MAX_DIGITS || matches!(field, [b'+', ..] | [b'0', _, ..]) {
+    if field.is_empty() || field.len() > MAX_DIGITS || matches!(field, [b'0', _, ..]) {
         return None;
     }
-    std::str::from_utf8(field).ok()?.parse().ok()
+    let mut number = 0;
+    for byte in field {
+        if !byte.is_ascii_digit() {
+            return None;
+        }
+        number = 10 * number + u16::from(byte - b'0');
+    }
+    Some(number)
 }

@@ -30,11 +30,12 @@ fn is_full<N: Network>(net: &N, load: &[LoadRecord]) -> bool
     requires records { (N.meaning net.now).channels ≤ length load.now }
     ensures { let n = N.meaning net.now in IsTrue result ↔ (packet_count n load.now ≡ n.channels) }
 {
-    let channels = usize::from(net.channels());
-    let packets = load[..channels]
-        .iter()
-        .filter(|record| record.place().is_some());
-    packets.count() == channels
+    let channels = net.channels();
+    let mut packets = 0;
+    for record in &load[..usize::from(channels)] {
+        packets += u16::from(record.place().is_some());
+    }
+    packets == channels
 }
 
 // The packet that stands in a channel, as its pair.

@@ -78,11 +78,11 @@ module _ (file : List ℕ) (room : ℕ) (s : Size) (n passed m : ℕ) (left rest
   unfolding lines.goes_on
   goes_on r v h takes e = record { lines = lines.goes_on file s n passed m left rest r b.lines h; records = table.goes_on s b.lines.rs r t v b.records takes e }
 
-  pub accepted : NextSays passed left None m rest → n ≤ limit room → (rs : List Record) × Accepted file room s rs × (n ≡ length rs)
+  pub accepted : NextSays passed left None m rest → n ≤ limit room → (rs : List Record) × Accepted file room s rs × (n ≡ length rs) × (meaning_of t ≡ drawn s rs)
   accepted h few =
       let r = lines.all_read file s n passed m left rest b.lines h in
       let c = b.lines.count in
-      (b.lines.rs, record { reads = r; size = b.records.size; fit = b.records.fit; few = omega arith }, c)
+      (b.lines.rs, record { reads = r; size = b.records.size; fit = b.records.fit; few = omega arith }, c, b.records.meaning)
 
   pub too_many : (f : TableFault) → NextSays passed left None m rest → limit room < n → f ≡ TooManyRecords (limit room + 2) → Refused file room f
   too_many f h l e =

@@ -13,6 +13,8 @@ use Rattle.networks.specs.declared.faults.TableFault.{TableFault}
 use Rattle.networks.specs.declared.faults.TableFault.TheVariants.{Text, TooManyRecords, NoMemory}
 use Rattle.tables.specs.Drawn.{drawn}
 use Rattle.tables.specs.Makes.{limit, SizeFits, SizeMisfit, Fit, Misfit}
+use Rattle.tables.specs.Meaning.{meaning_of}
+use Rattle.netfiles.specs.declared.reading.NetworkFile.{NetworkFile}
 
 -- The file says a size and records that make a table, and there is room for them.
 pub record Accepted (file : List ℕ) (room : ℕ) (s : Size) (rs : List Record) : Type 0 where
@@ -64,6 +66,11 @@ pub record OneReading (file : List ℕ) (room : ℕ) : Type 0 where
   pub one : (s t : Size) (rs qs : List Record) → Accepted file room s rs → Accepted file room t qs → (s ≡ t) × (rs ≡ qs)
   pub one_fault : (f g : TableFault) → Refused file room f → Refused file room g → f ≡ g
   pub same_bytes : (s : Size) (rs : List Record) (old new : List ℕ) (end : ℕ) → Accepted file room s rs → Wrote (file_text s rs) 0 old new end → take end new ≡ file
+
+-- The network that the file draws, or why there is none.
+abbrev pub TableRead : List ℕ → ℕ → Result NetworkFile TableFault → Type 0
+TableRead file room (Ok a) = (rs : List Record) × Accepted file room a.summary.size rs × (a.summary.records ≡ length rs) × (meaning_of a.table ≡ drawn a.summary.size rs)
+TableRead file room (Err f) = Refused file room f ⊎ Wanting file f
 
 -- The records stand at the list's start, in the order of the file, and the list is as it was behind them; a refusal leaves it.
 abbrev pub Reading : List ℕ → List Record → Result Summary TableFault → List Record → Type 0

@@ -1,10 +1,10 @@
-//! Reading a network file into a lent list of records.
+//! Reading a network file into a table, or into a lent list of records.
 
-ghost use Rattle.std.specs.Prelude.{◌≡◌, ◌⊎◌, List, ◌++◌, length, drop, MatchResult};
+ghost use Rattle.std.specs.Prelude.{◌≡◌, List, ◌++◌, length, drop};
 ghost use Rattle.records.specs.declared.Record.{Record};
 ghost use Rattle.records.specs.declared.Size.{Size};
 ghost use Rattle.files.specs.Says.{Reads};
-ghost use Rattle.netfiles.specs.Reading.{Accepted, Refused, Wanting, Storable, Reading, OneReading};
+ghost use Rattle.netfiles.specs.Reading.{TableRead, Storable, Reading, OneReading};
 
 use files::judging::Summary;
 use files::reading::Reader;
@@ -13,11 +13,20 @@ use records::Record;
 use std::alloc::Global;
 use tables::{Table, check_count};
 
-// Judges a file whose records are to go into a list with room for so many: the size and the number of records, or the fault.
-fn judge_file(heap: Global, file: &[u8], room: usize) -> Result<Summary, TableFault>
-    ensures { MatchResult result
-        (λ a. (rs : List Record) × Accepted file.now room a.size rs × (a.records ≡ length rs))
-        (λ f. Refused file.now room f ⊎ Wanting file.now f) }
+/// A network file that was read.
+#[derive(Drop)]
+pub struct NetworkFile {
+    /// The size that it says, and how many records it has.
+    pub summary: Summary,
+    /// The network that these draw.
+    pub table: Table,
+}
+
+/// Reads a file with at most `room` records, and never more than a table takes, straight into a table.
+#[tactic(auto, using(crate::proofs::Readings::one_reading))]
+pub fn read_table(heap: Global, file: &[u8], room: usize) -> Result<NetworkFile, TableFault>
+    ensures reading { TableRead file.now room result }
+    ensures one { OneReading file.now room }
 {
     let mut reader = Reader::new(file);
     let size = reader.size()?;
@@ -29,7 +38,8 @@ fn judge_file(heap: Global, file: &[u8], room: usize) -> Result<Summary, TableFa
         records += 1;
     }
     check_count(records, room)?;
-    Ok(Summary { size, records })
+    let summary = Summary { size, records };
+    Ok(NetworkFile { summary, table })
 }
 
 // Puts the records of a file at the start of a list that has room for them.
@@ -50,7 +60,7 @@ pub fn read_network(heap: Global, file: &[u8], list: &mut [Record]) -> Result<Su
     ensures reading { Reading file.now list.old result list.new }
     ensures one { OneReading file.now (length list.old) }
 {
-    let summary = judge_file(heap, file, list.len())?;
+    let read = read_table(heap, file, list.len())?;
     store(file, list);
-    Ok(summary)
+    Ok(read.summary)
 }

@@ -1,10 +1,11 @@
--- What numbers that the rounds came to decide.
+-- What follows from numbers that are decided, and that those of the rounds are.
 use Rattle.std.proofs.Common.{◌≡◌, ℕ, zero, suc, ◌<◌, ◌≤◌, ◌⊎◌, true, false, Bool, List, length, slice_index, inl, inr, refl, ap, ◌∙◌, arith, nat_eq, nat_lt, ◌&&◌}
 use native.Mathlib.Decide.{ℕ_discrete, dec_lt}
 use Rattle.std.proofs.lemmas.Bool.{both_ways, and_from, and_parts, lt-ltb, ltb-true, eq-eqb, eqb-true, false_from_ne_true}
 use Rattle.numbering.specs.Systems.{System, Conditions, Way, most_items}
 use Rattle.numbering.specs.Numbers.{Sound, HeldSet, Held, Smallest, Equation, none, greatest, Numbered, AllNumbered, held_number}
 use Rattle.numbering.specs.Rounds.{Met, Done, Open, Finished}
+use Rattle.numbering.specs.Deciding.{Decided}
 
 -- one of the first n numbers of a list that is the least of them
 least_of : (f : ℕ → ℕ) (xs : List ℕ) (n : ℕ) → 0 < n → (k : ℕ) × (k < n) × ((l : ℕ) → l < n → f (slice_index xs k) ≤ f (slice_index xs l))
@@ -61,14 +62,6 @@ one_numbering s a b ok x y i h =
     let p = not_above s a b ok x y (suc (b i)) i (omega arith) h in
     let q = not_above s b a ok y x (suc (a i)) i (omega arith) h in
     omega (arith, p, q)
-
--- what the rounds and the closing come to
-pub record Decided (s : System) (g : ℕ → ℕ) (r : ℕ) : Type 0 where
-  pub few : r ≤ s.items
-  pub each : (i : ℕ) → i < s.items → g i < r → (j : ℕ) → Met s g i (g i) j
-  pub last : (i : ℕ) → i < s.items → g i < r → (g i ≡ 0) ⊎ ((j : ℕ) × (s.need i j ≡ true) × ((h : ℕ) → Way s i j h → g i ≤ suc (g h)))
-  pub held : (i : ℕ) → i < s.items → r ≤ g i → (g i ≡ held_number) × ((j : ℕ) × (s.need i j ≡ true) × ((h : ℕ) → Way s i j h → g h ≡ held_number))
-  pub given : (r ≡ 0) ⊎ ((i : ℕ) × (i < s.items) × (suc (g i) ≡ r))
 
 pub way_inside : (s : System) → Conditions s → (i j h : ℕ) → Way s i j h → h < s.items
 way_inside s ok i j h w = rw w.2 (ok.ways_inside i j w.0 w.1)

@@ -1,5 +1,9 @@
+pub mod Counting
 pub mod Counts
 pub mod Deciding
+pub mod Looking
 pub mod Outcome
 pub mod Rounding
 pub mod Settling
+pub mod Stepping
+pub mod Walking

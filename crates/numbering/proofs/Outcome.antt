@@ -5,10 +5,11 @@ use Rattle.std.proofs.lemmas.Bool.{both_ways, and_from, and_parts, lt-ltb, ltb-t
 use Rattle.std.proofs.lemmas.List.{get_or_past, get_or_append_left, get_or-append_right, get_or-drop, take-append-le}
 use Rattle.numbering.specs.Systems.{System, Conditions, Way}
 use Rattle.numbering.specs.Numbers.{Sound, Smallest, Equation, none, greatest, Numbered, AllNumbered, held_number}
-use Rattle.numbering.specs.Rounds.{Open, Listing, Finished, Closed}
+use Rattle.numbering.specs.Rounds.{Open, Listing}
 use Rattle.numbering.specs.Outcomes.{Outcome, Greatest, count_held, numbered_items}
 use Rattle.numbering.specs.declared.Numbering.{Numbering}
-use Rattle.numbering.proofs.Deciding.{Decided, decided, way_inside, below_items, all_numbered, least, one_numbering}
+use Rattle.numbering.specs.Deciding.{Decided}
+use Rattle.numbering.proofs.Deciding.{way_inside, below_items, all_numbered, least, one_numbering}
 
 -- before the first round every item is open
 pub listing_start : (s : System) (f : ℕ → ℕ) (list : List ℕ) → ((i : ℕ) → i < s.items → f i ≡ held_number) → ((i : ℕ) → i < s.items → slice_index list i ≡ i) → Listing s f list 0 s.items
@@ -58,18 +59,17 @@ greatest_of s ok g r d = record { none_above = none_above; given = given d.given
     given (inl z) = inl (omega (arith, z))
     given (inr (i, l, e)) = inr (i, l, (λ q. omega (arith, q, e, d.few, ok.few_items)), omega (arith, e))
 
-pub outcome : (s : System) → Conditions s → (before rounds after : List ℕ) (r held : ℕ) → length before ≡ s.items → length after ≡ s.items → Finished s (slice_index rounds) r → ((i : ℕ) → i < s.items → Closed r rounds after i) → held ≡ count_held s.items after → Outcome s before after (record { greatest = r - 1; held = held })
-outcome s ok before rounds after r held lb la fin closed e =
-    let d = decided s ok (slice_index rounds) (slice_index after) r fin closed in
-    let all = all_numbered s ok (slice_index after) r d in
+pub outcome : (s : System) → Conditions s → (before after : List ℕ) (bound held : ℕ) → length before ≡ s.items → length after ≡ s.items → Decided s (slice_index after) bound → held ≡ count_held s.items after → Outcome s before after (record { greatest = bound - 1; held = held })
+outcome s ok before after bound held lb la d e =
+    let all = all_numbered s ok (slice_index after) bound d in
     record {
       all = all;
       only = λ other x. one_numbering s other (slice_index after) ok x all;
-      below = below_items s ok (slice_index after) r d;
-      sound = sound s ok (slice_index after) r d;
-      least = least s ok (slice_index after) r d;
+      below = below_items s ok (slice_index after) bound d;
+      sound = sound s ok (slice_index after) bound d;
+      least = least s ok (slice_index after) bound d;
       beyond = λ k h. get_or_past after k 0 (omega (arith, la)) ∙ sym (get_or_past before k 0 (omega (arith, lb)));
-      greatest = greatest_of s ok (slice_index after) r d;
+      greatest = greatest_of s ok (slice_index after) bound d;
       held = e;
     }
 

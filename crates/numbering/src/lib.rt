@@ -7,10 +7,12 @@ ghost use Rattle.networks.specs.Allowed.{said};
 ghost use Rattle.networks.specs.Nets.{WayAt};
 ghost use Rattle.numbering.specs.Systems.{System, Conditions};
 
+mod numbers;
 mod rounds;
+mod walks;
 pub mod ways;
 
-pub use crate::rounds::number;
+pub use crate::numbers::number;
 
 /// The number that every held item gets.
 pub const HELD: u32 = u32::MAX;

@@ -1,17 +1,14 @@
 //! The numbering of a release system's items, round by round.
 
-ghost use Rattle.std.specs.Prelude.{◌≡◌, ◌+◌, ◌-◌, ◌<◌, ◌≤◌, ◌⊎◌, suc, length, slice_index, MatchBool, ℕ, count_by, nat_eq};
+ghost use Rattle.std.specs.Prelude.{◌≡◌, ◌+◌, ◌-◌, ◌<◌, ◌≤◌, ◌⊎◌, suc, length, slice_index, MatchBool, ℕ};
 ghost use Rattle.networks.specs.Allowed.{said};
-ghost use Rattle.networks.specs.Cleared.{AllZero};
+ghost use Rattle.numbering.specs.Deciding.{Decided};
 ghost use Rattle.numbering.specs.Numbers.{held_number};
 ghost use Rattle.numbering.specs.Rounds.{Met, Unmet, Passed, Done, Open, Midway, Listing, Finished, Settled, Closed};
 ghost use Rattle.numbering.specs.Systems.{most_items, most_slots};
-ghost use Rattle.numbering.specs.Outcomes.{Outcome, Numbers};
 
 use crate::ways::NeedWays;
-use crate::{HELD, Numbering, ReleaseSystem};
-use networks::faults::{Buffer, StudyFault};
-use networks::guard::Cleared;
+use crate::{HELD, ReleaseSystem};
 
 // Whether the slot of the item is empty, or a way of its need was numbered before the round.
 fn is_met<S: ReleaseSystem>(
@@ -171,50 +168,19 @@ fn open_all(numbers: &mut [u32], list: &mut [u32])
     }
 }
 
-// How many of the words are `HELD`.
-fn count_held(numbers: &[u32]) -> usize
-    ensures { result ≡ count_by (λ word. nat_eq word held_number) numbers.now }
-{
-    numbers.iter().filter(|number| **number == HELD).count()
-}
-
-// Numbers the items of a system. The list is of any words.
-fn number_items<S: ReleaseSystem>(
+// Numbers the items in rounds. The list is of any words. Answers 1 more than the greatest number given, or 0 where none is.
+pub(crate) fn number_by_rounds<S: ReleaseSystem>(
     system: &S,
     allowed: &[u8],
     numbers: &mut [u32],
     list: &mut [u32],
-) -> Numbering
+) -> u32
     requires words { length numbers.old ≡ (S.meaning system.now (said allowed.now)).items }
     requires items { length list.old ≡ (S.meaning system.now (said allowed.now)).items }
-    ensures { Outcome (S.meaning system.now (said allowed.now)) numbers.old numbers.new result }
+    ensures { Decided (S.meaning system.now (said allowed.now)) (slice_index numbers.new) result }
 {
     open_all(numbers, list);
     let rounds = run_rounds(system, allowed, numbers, list);
     close(numbers, rounds);
-    Numbering {
-        greatest: rounds.saturating_sub(1),
-        held: count_held(numbers),
-    }
-}
-
-/// Numbers the items of a release system: `numbers` holds for each item the number that is defined, which is `HELD` for an item
-/// that is held. Answers the greatest number and how many items are held. Numbers or a work area with less than one word for
-/// each item are refused, and then the numbers stay as they were. The work area is all 0 at the end.
-pub fn number<S: ReleaseSystem>(
-    system: &S,
-    allowed: &[u8],
-    numbers: &mut [u32],
-    work: &mut [u32],
-) -> Result<Numbering, StudyFault>
-    ensures numbers { Numbers (S.meaning system.now (said allowed.now)) numbers.old (length work.old) result numbers.new }
-    ensures cleared { AllZero work.new }
-{
-    let guard = Cleared { words: work };
-    let items = system.items() as usize;
-    Buffer::Numbers.check(items, numbers.len())?;
-    Buffer::Work.check(items, guard.words.len())?;
-    let words = &mut numbers[..items];
-    let list = &mut guard.words[..items];
-    Ok(number_items(system, allowed, words, list))
+    rounds
 }

@@ -66,7 +66,7 @@ impl<N: Network> ReleaseSystem for Route<'_, N> {
         let Some(pair) = self.pair(item) else {
             return false;
         };
-        usize::from(slot) < self.net.way_count(pair).max(1) && must_move(self.net, allowed, pair)
+        must_move(self.net, allowed, pair) && usize::from(slot) < self.net.way_count(pair).max(1)
     }
 
     fn way(&self, _allowed: &[u8], item: u32, slot: u16, position: usize) -> Option<u32> {

@@ -37,15 +37,15 @@ impl CellWays {
         room: [0; MAX_WAYS],
     };
 
-    pub(super) fn len(self) -> usize
-        ensures { result ≡ length self }
+    pub(super) fn len(&self) -> usize
+        ensures { result ≡ length self.now }
     {
         usize::from(self.count)
     }
 
     /// The way at a position.
-    pub(super) fn get(self, position: usize) -> Option<u16>
-        ensures { WayAt self position result }
+    pub(super) fn get(&self, position: usize) -> Option<u16>
+        ensures { WayAt self.now position result }
     {
         self.room[..usize::from(self.count)].get(position).copied()
     }

@@ -21,15 +21,15 @@ impl Table {
     }
 
     // The cell of a pair, if it lies in the network.
-    fn cell(&self, pair: Pair) -> Option<Cell>
+    fn cell(&self, pair: Pair) -> Option<&Cell>
         ensures { MatchOption result
             (inside self.now.size.channels self.now.size.places pair.channel pair.place ≡ false)
-            (λ x. (inside self.now.size.channels self.now.size.places pair.channel pair.place ≡ true) × (x ≡ cell_of self.now.size.places self.now.cells.items pair.channel pair.place)) }
+            (λ x. (inside self.now.size.channels self.now.size.places pair.channel pair.place ≡ true) × (x.now ≡ cell_of self.now.size.places self.now.cells.items pair.channel pair.place)) }
     {
         if pair.channel >= self.size.channels || pair.place >= self.size.places {
             return None;
         }
-        Some(self.cells[self.position(pair)])
+        Some(&self.cells[self.position(pair)])
     }
 }
 

@@ -1,12 +1,12 @@
 -- Marking pairs and queueing them.
-use Rattle.std.proofs.Common.{◌≡◌, ℕ, zero, suc, ◌^◌, replicate, ◌+◌, ◌/◌, ◌%◌, ◌<◌, ◌≤◌, true, false, cond, eqb, ◌≢◌, ◌⊎◌, MutBor, List, ◌++◌, ◌∷◌, [], length, get_or, set, Some, None, count_by, sym, refl, ap, ◌∙◌, inl, inr, arith}
+use Rattle.std.proofs.Common.{◌≡◌, ℕ, zero, suc, ◌^◌, replicate, ◌+◌, ◌-◌, ◌/◌, ◌%◌, ◌<◌, ◌≤◌, true, false, cond, eqb, ◌≢◌, ◌⊎◌, MutBor, List, ◌++◌, ◌∷◌, [], length, get_or, set, Option, Some, None, MatchOption, count_by, sym, refl, ap, ◌∙◌, inl, inr, arith}
 use mathlib.Core.Logic.{∥∥₁_map, ∥∥₁_elim}
 use native.Mathlib.Decide.{ℕ_discrete}
 use native.Mathlib.Nat.{ℕ_set}
 use Rattle.std.proofs.lemmas.List.{get_or_default, get_or-set_same, get_or-set_other, get_or_past, length-set, take_all}
 use Rattle.std.proofs.lemmas.List.Elements.{All-push, All-weaker, All-get_or}
 use Rattle.std.proofs.lemmas.List.Sums.{count_by-le-length, sum_by-set}
-use Rattle.std.proofs.lemmas.Bool.{le-ltb}
+use Rattle.std.proofs.lemmas.Bool.{le-ltb, cases_lt}
 use Rattle.std.proofs.lemmas.Iterator.Consumers.{YieldsList-from_first, YieldsList-turn}
 use Rattle.std.specs.Iterator.{Yields, YieldsFirst}
 use borrow.Author.Count.{below_more}
@@ -14,6 +14,7 @@ use Rattle.networks.specs.Allowed.{Allowed, enters, moves, pairs, position}
 use Rattle.networks.specs.Nets.{Net, Conditions}
 use Rattle.networks.specs.Rooms.{first_short}
 use Rattle.tracing.specs.declared.Marks.{Marks}
+use Rattle.tracing.specs.Entries.{NoEntry}
 use Rattle.tracing.specs.Queue.{Queued}
 use Rattle.tracing.specs.Queues.{Grown, Taken, Sound, Entered, AllMarked, Passed, Followed}
 use Rattle.tracing.specs.Traces.{Tells, Traced, rooms}
@@ -141,6 +142,23 @@ entered_more {n} ok m after c d l x keeps here = λ k h. all k (omega arith)
     all =
         below_more (λ k. n.entry (k / n.places) (k % n.places) ≡ true → get_or after.table.now k 0 ≡ 1) (position n c d) (λ k h e. keeps k (x k h e))
         (rw (channel_of n ok c d l, place_of n ok c d l) here)
+
+-- the next entry of a channel is found by a search over its places
+pub entry_found : (n : Net) (c from end : ℕ) → end ≡ n.places → (r : Option ℕ) → MatchOption r ((k : ℕ) → from ≤ k → k < end → n.entry c k ≡ false) (λ d. (from ≤ d) × (d < end) × (n.entry c d ≡ true) × ((k : ℕ) → from ≤ k → k < d → n.entry c k ≡ false)) → MatchOption r (NoEntry n c from n.places) (λ d. (from ≤ d) × (d < n.places) × (n.entry c d ≡ true) × NoEntry n c from d)
+entry_found n c from end e r m = rw (← e) m
+
+-- pairs that are no entries need no mark
+pub entered_past : {n : Net} (ok : Conditions n) (m : Marks) (c from to : ℕ) → to ≤ n.places → NoEntry n c from to → Entered n m (position n c from) → Entered n m (position n c to)
+entered_past {n} ok m c from to l none x = λ k h e. go k h e (cases_lt k (position n c from))
+  where
+    go : (k : ℕ) → k < position n c to → n.entry (k / n.places) (k % n.places) ≡ true → (k < position n c from) ⊎ (position n c from ≤ k) → get_or m.table.now k 0 ≡ 1
+    go k h e (inl b) = x k b e
+    go k h e (inr b) =
+        let d = k - position n c 0 in
+        let at : k ≡ position n c d = omega arith in
+        let i : d < n.places = omega arith in
+        let f = none d (omega arith) (omega arith) in
+        absurd (cc (f, rw (at, channel_of n ok c d i, place_of n ok c d i) at e))
 
 -- the pair that the way leads to that a loop over ways is given
 pub way_allowed : {n : Net} {c d h : ℕ} → Allowed n c d → n.home c d ≡ false → {all left : List ℕ} (rest : List ℕ) → all ≡ n.ways c d → (ys : List ℕ) → Yields (YieldsFirst (λ (ways : List ℕ). ways)) all ys left → left ≡ h ∷ rest → Allowed n h d

@@ -1,3 +1,4 @@
+pub mod Entries
 pub mod Queue
 pub mod Queues
 pub mod Traces

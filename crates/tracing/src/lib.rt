@@ -2,10 +2,11 @@
 
 #![tactic(auto)]
 
-ghost use Rattle.std.specs.Prelude.{◌≡◌, ◌/◌, ◌%◌, ◌^◌, ◌<◌, false, length, slice_set};
+ghost use Rattle.std.specs.Prelude.{◌≡◌, ◌/◌, ◌%◌, ◌^◌, ◌<◌, ◌≤◌, true, false, length, slice_set, MatchOption};
 ghost use Rattle.networks.specs.Allowed.{Allowed, pairs};
 ghost use Rattle.networks.specs.Cleared.{AllZero};
 ghost use Rattle.tracing.specs.Queue.{Queued};
+ghost use Rattle.tracing.specs.Entries.{NoEntry};
 ghost use Rattle.tracing.specs.Traces.{Traced, Traces};
 
 use networks::Network;
@@ -26,6 +27,22 @@ fn pair_at(position: usize, places: u16) -> Pair
         channel: (position / places) as u16,
         place: (position % places) as u16,
     }
+}
+
+// The lowest place, from a place on, for which packets may be put into the channel. The search writes nothing, so that what it asks of
+// the network need not be read anew for each pair.
+fn next_entry<N: Network>(net: &N, channel: u16, from: u16) -> Option<u16>
+    ensures { let n = N.meaning net.now in MatchOption result
+        (NoEntry n channel from n.places)
+        (λ place. (from ≤ place) × (place < n.places) × (n.entry channel place ≡ true) × NoEntry n channel from place) }
+{
+    (from..net.places()).find(|place| {
+        let pair = Pair {
+            channel,
+            place: *place,
+        };
+        net.entry(pair)
+    })
 }
 
 // What is marked while a network is traced.
@@ -82,11 +99,10 @@ impl Marks<'_> {
     {
         let places = net.places();
         for channel in 0..net.channels() {
-            for place in 0..places {
-                let pair = Pair { channel, place };
-                if net.entry(pair) {
-                    self.mark(pair.position(places));
-                }
+            let mut from = 0;
+            while let Some(place) = next_entry(net, channel, from) {
+                self.mark(Pair { channel, place }.position(places));
+                from = place + 1;
             }
         }
     }

@@ -65,39 +65,52 @@ pub(super) fn size_of<N: Network>(net: &N) -> Size {
     }
 }
 
-// The records that a network's answers amount to: of each pair whether it is an entry, whether it is home, and its ways.
+// Adds the records that a network's answers about a pair amount to: whether it is an entry, whether it is home, and its ways.
+fn push_records<N: Network>(
+    records: &mut Vec<Record>,
+    net: &N,
+    pair: Pair,
+) -> Result<(), AllocError> {
+    let Pair { channel, place } = pair;
+    if net.entry(pair) {
+        records.push(Record::Entry { channel, place })?;
+    }
+    if net.home(pair) {
+        records.push(Record::Home { channel, place })?;
+    }
+    for next in Ways::new(net, pair) {
+        records.push(Record::Way {
+            channel,
+            place,
+            next,
+        })?;
+    }
+    Ok(())
+}
+
+// The records that a network's answers amount to.
 fn records_of<N: Network>(heap: Global, net: &N) -> Result<Vec<Record>, AllocError> {
     let mut records = Vec::new(heap);
     for channel in 0..net.channels() {
         for place in 0..net.places() {
-            let pair = Pair { channel, place };
-            if net.entry(pair) {
-                records.push(Record::Entry { channel, place })?;
-            }
-            if net.home(pair) {
-                records.push(Record::Home { channel, place })?;
-            }
-            for next in Ways::new(net, pair) {
-                records.push(Record::Way {
-                    channel,
-                    place,
-                    next,
-                })?;
-            }
+            push_records(&mut records, net, Pair { channel, place })?;
         }
     }
     Ok(records)
 }
 
+// Traces a network into just enough bytes.
+fn traced<N: Network>(heap: Global, net: &N) -> anyhow::Result<Attempt> {
+    let pairs = pair_count(net);
+    let attempt = Attempt::new(heap, net, pairs, pairs)?;
+    ensure!(attempt.kept(pairs), "the buffers are as the answer says");
+    Ok(attempt)
+}
+
 // Traces both networks, which have to agree, and answers how many pairs are allowed.
 fn same_traces<A: Network, B: Network>(heap: Global, a: &A, b: &B) -> anyhow::Result<usize> {
-    let pairs = pair_count(a);
-    let of_a = Attempt::new(heap, a, pairs, pairs)?;
-    let of_b = Attempt::new(heap, b, pairs, pairs)?;
-    ensure!(
-        of_a.kept(pairs) && of_b.kept(pairs),
-        "the buffers are as the answer says"
-    );
+    let of_a = traced(heap, a)?;
+    let of_b = traced(heap, b)?;
     ensure!(
         of_a.table.as_slice() == of_b.table.as_slice(),
         "the same table"

@@ -1,11 +1,10 @@
 use Rattle.std.proofs.Common.{rules, length}
-use Rattle.checks.proofs.Verdicts.{rooms_suffice, items_suffice, checked}
+use Rattle.checks.proofs.Verdicts.{rooms_suffice, words_suffice, checked}
 use Rattle.checks.proofs.check.Goals as goal
 
 pub returns-in_err-numbering-clause-checks : goal.returns-in_err-numbering-clause-checks
 returns-in_err-numbering-clause-checks g c =
-    let few = items_suffice (g.N.Network.meaning c.args.net.now) (g.N.Network.conditions c.args.net.now) c.trace.new.allowed (length c.args.numbers.now) (length c.trace.new.work) (search rules) (search rules) in
-    absurd (cc (few, c.in_err-numbering.ensures.numbers.1))
+    absurd (words_suffice (g.N.Network.meaning c.args.net.now) (g.N.Network.conditions c.args.net.now) c.trace.new.allowed _ _ _ _ (search rules) (search rules) (search rules) c.in_err-numbering.ensures.numbers.1)
 
 pub returns-clause-checks : goal.returns-clause-checks
 returns-clause-checks g c =

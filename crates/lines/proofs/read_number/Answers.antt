@@ -1,14 +1,18 @@
-use Rattle.std.proofs.Common.{◌≡◌, ◌≤◌, length, get_or, arith}
+use Rattle.std.proofs.Common.{◌≡◌, ◌≤◌, length, get_or, rules, arith}
 use Rattle.std.proofs.lemmas.Bool.Decides.{nat_tests}
-use Rattle.lines.proofs.Numerals.{spelled_text, read}
+use Rattle.lines.proofs.Numerals.{upto_small, one_more, all_spell}
 use Rattle.lines.proofs.read_number.Goals as goal
 
-pub returns-in_err-ok : goal.returns-in_err-ok
-returns-in_err-ok c = rw c.from_residual.ensures (record { cases = λ s. grind (arith, spelled_text c.args.field.now s, c.from_utf8.ensures.cases) })
+pub overflow_mul-number : goal.overflow_mul-number
+overflow_mul-number c = let s = upto_small c.args.field.now c.loop-byte.byte-index c.loop-byte.number (search rules) (search rules) c.loop-byte.invariant in omega (arith, s)
+
+pub overflow_add-number : goal.overflow_add-number
+overflow_add-number c = let s = upto_small c.args.field.now c.loop-byte.byte-index c.loop-byte.number (search rules) (search rules) c.loop-byte.invariant in grind (arith, s)
+
+pub loop-byte-preserved : goal.loop-byte-preserved
+loop-byte-preserved c = rw c.from.ensures (one_more c.args.field.now c.loop-byte.byte-index c.loop-byte.number (search rules) (search rules) c.loop-byte.invariant (search rules))
 
 pub returns : goal.returns
 returns c =
-    let plus : get_or c.args.field.now 0 0 ≡ 43 → ⊥ = λ z. grind (arith, nat_tests) in
     let leading : get_or c.args.field.now 0 0 ≡ 48 → length c.args.field.now ≤ 1 = λ z. grind (arith, nat_tests) in
-    let text : c.in_ok-ok.field-0.now ≡ c.args.field.now = grind (arith, c.from_utf8.ensures.cases) in
-    record { cases = rw c.ok-2.ensures.value (read c.args.field.now c.parse.result (omega arith) plus leading (rw text at c.parse.ensures.value.0)) }
+    record { cases = all_spell c.args.field.now c.loop-byte.number (search rules) (search rules) leading (search rules) }

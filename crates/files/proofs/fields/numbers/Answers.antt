@@ -1,40 +1,34 @@
-use Rattle.std.proofs.Common.{length, refl, ap, sym, ◌∙◌, inl, inr, arith}
-use Rattle.std.proofs.lemmas.List.{length-replicate}
-use Rattle.std.proofs.lemmas.Result.{err_from_is_err_and}
+use Rattle.std.proofs.Common.{◌∙◌, inl, rules, arith}
 use Rattle.lines.proofs.Counts.{fields_counted}
 use Rattle.lines.proofs.Laws.{few_left}
-use Rattle.files.proofs.FirstNumbers.{no_numbers, one_number_more, no_number}
+use Rattle.lines.specs.Pieces.{raw}
+use Rattle.files.proofs.FirstNumbers.{one_number_more, bad_number, too_few, all_numbers}
 use Rattle.files.proofs.fields.numbers.Goals as goal
-use Rattle.files.proofs.fields.numbers.Goals.{then-not-line-via-then-not-line, then-not-line-via-else-not-line+then-count}
 
-pub returns-then-not-line : goal.returns-then-not-line
-returns-then-not-line g c = (
-  refl,
-  elim c.then-not-line.branch [
-    | then-not-line-via-then-not-line w ↦ inl w.if-not-line.true
-    | then-not-line-via-else-not-line+then-count w ↦
-        inr (λ e. w.if-count.true (fields_counted w.after_first.result w.count.result w.count.ensures.ran ∙ ap length (w.after_first.ensures.rest ∙ sym c.requires) ∙ e))
-  ],
-)
+pub returns-in_default : goal.returns-in_default
+returns-in_default g c =
+    let s = c.in_default.ensures.steps in
+    too_few _ _ _ _ _ _ c.loop-at.invariant (raw c.args.line) _ c.loop-at-test.true c.requires (search (rules, s))
 
-pub loop-at-init : goal.loop-at-init
-loop-at-init g c =
-    let n = fields_counted c.after_first.result c.count.result c.count.ensures.ran ∙ ap length c.after_first.ensures.rest in
-    let i = c.into_iter-at-iterator.ensures.into_iter_gives in
-    let s = c.enumerate-at-items.ensures in
-    rw (i, s.source, s.count) (no_numbers _ _ _ _ (sym n ∙ c.if-count.false) (length-replicate g.row.N 0) c.after_first-2.ensures.rest c.after_first-2.ensures.passed)
+pub count-requires-clause-fits : goal.count-requires-clause-fits
+count-requires-clause-fits g c = inl (search (rules, few_left))
 
-pub returns-in_err-numbers : goal.returns-in_err-numbers
-returns-in_err-numbers g c =
-    let p = err_from_is_err_and c.from_residual.result c.from_residual.ensures.1 in
+pub fault_of-requires : goal.fault_of-requires
+fault_of-requires g c =
     let s = c.in-Some.ensures.steps in
-    let e = c.in_err-numbers.ensures in
-    rw (p.1, p.2, e.0) (no_number _ _ _ _ _ _ c.loop-at.invariant _ _ _ _ _ c.if-not-line.false c.requires s.0.0 e.1 s.0.1.0)
+    let n = fields_counted c.next.new.self c.count.result c.count.ensures.ran in
+    record { fits = omega (arith, n, s.1.0, s.1.1, s.3, few_left (λ x. x) c.next.new.self.rest, c.loop-at.invariant.place) }
+
+pub returns-in_default-read_number : goal.returns-in_default-read_number
+returns-in_default-read_number g c =
+    let s = c.in-Some.ensures.steps in
+    let n = fields_counted c.next.new.self c.count.result c.count.ensures.ran in
+    rw (c.fault_of.ensures, n) (bad_number _ _ _ _ _ _ c.loop-at.invariant (raw c.args.line) _ _ _ _ c.loop-at-test.true c.requires s.0 c.in_default-read_number.ensures.cases s.1.0)
 
 pub loop-at-preserved : goal.loop-at-preserved
 loop-at-preserved g c =
     let s = c.in-Some.ensures.steps in
-    rw (s.1, s.2, s.0.1.1) (one_number_more _ _ _ _ _ _ c.loop-at.invariant _ _ _ _ s.0.0 c.in_ok-numbers.ensures s.0.1.0)
+    one_number_more _ _ _ _ _ _ c.loop-at.invariant _ _ _ _ c.loop-at-test.true s.0 c.in-Some-read_number.ensures.cases.1 (s.1.1 ∙ s.1.0)
 
-pub count-requires-clause-fits : goal.count-requires-clause-fits
-count-requires-clause-fits g c = inl (omega (arith, c.after_first.ensures.few, few_left (λ x. x) c.after_first.result.rest))
+pub returns : goal.returns
+returns g c = all_numbers _ _ _ _ _ _ c.loop-at.invariant (raw c.args.line) (search rules) (search rules) c.requires (search rules)

@@ -1,4 +1,4 @@
-use Rattle.std.proofs.Common.{◌≡◌}
+use Rattle.std.proofs.Common.{◌≡◌, ◌-◌, ◌≤◌}
 use Rattle.networks.specs.Allowed.{position}
 use Rattle.tracing.specs.Queues.{Sound, SameLent, Entered}
 use Rattle.tracing.proofs.Marks.enter.Given as goal
@@ -11,4 +11,7 @@ invariant-loop-channel g l =
 abbrev pub invariant-loop-place : goal.invariant-loop-place
 invariant-loop-place g l =
     let n = g.N.Network.meaning l.net in
-    Sound n l.self × Entered n l.self (position n l.channel l.place) × SameLent l.initial.self l.self × (l.self.head ≡ 0)
+    (Sound n l.self × Entered n l.self (position n l.channel l.from) × SameLent l.initial.self l.self × (l.self.head ≡ 0)) × (l.from ≤ n.places)
+
+abbrev pub decreases-loop-place : goal.decreases-loop-place
+decreases-loop-place g l = (g.N.Network.meaning l.net).places - l.from

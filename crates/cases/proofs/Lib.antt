@@ -1,0 +1,9 @@
+mod Ranges
+mod Sources
+mod Reaching
+mod Numbering
+mod Verdicts
+mod Emptying
+mod Single
+mod Showing
+mod Working
