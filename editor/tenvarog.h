@@ -36,8 +36,8 @@ extern "C" {
  * Lengths count bytes and words. A buffer may be longer than is needed; what lies beyond is left as it is. With a verdict `fault` is left, and with a
  * refusal `allowed`, `numbers` and `places` are. If `fault` is shorter than two words, as much is told as there is room for.
  *
- * No pointer may be null, not even with a length of 0, and no buffer may overlap another or the file. The call keeps no pointer, allocates with
- * malloc and frees before it returns, and may run in several threads at once. */
+ * No pointer may be null, not even with a length of 0, one to words has to be aligned for them, and no buffer may overlap another or the file.
+ * The call keeps no pointer, allocates with malloc and frees before it returns, and may run in several threads at once. */
 uint32_t tenvarog_check(
     const uint8_t *file, size_t file_length,
     uint8_t *allowed, size_t allowed_length,

@@ -1,6 +1,8 @@
 mod Agreeing
 mod Begun
 mod Concluding
+pub mod Cut
+mod Early
 mod Lines
 mod OneResult
 mod OneText

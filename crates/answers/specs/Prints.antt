@@ -1,14 +1,16 @@
 -- What netcheck prints.
 use Rattle.std.specs.Prelude.{◌≡◌, ℕ, zero, suc, ◌<◌, ◌≤◌, ◌⊎◌, cond, List, [], ◌∷◌, ◌++◌, length, codes, decimal, Option, Some, None, nat_eq, slice_index}
+use Rattle.lines.specs.Pieces.{RawLine, lines_of}
 use Rattle.records.specs.declared.Record.{Record}
 use Rattle.records.specs.declared.Size.{Size}
 use Rattle.records.specs.declared.faults.Parts.{Parts}
+use Rattle.records.specs.declared.faults.TextFault.TheVariants.{NoSize}
 use Rattle.records.specs.Faults.{word_of}
 use Rattle.networks.specs.declared.faults.Buffer.TheVariants.{File}
 use Rattle.networks.specs.declared.faults.StudyFault.{StudyFault}
 use Rattle.networks.specs.declared.faults.StudyFault.TheVariants.{Table, Short}
 use Rattle.networks.specs.declared.faults.TableFault.{TableFault}
-use Rattle.networks.specs.declared.faults.TableFault.TheVariants.{NoMemory}
+use Rattle.networks.specs.declared.faults.TableFault.TheVariants.{Text, NoMemory}
 use Rattle.networks.specs.Faults.{study_parts}
 use Rattle.networks.specs.Nets.{Net}
 use Rattle.numbering.specs.Numbers.{held_number}
@@ -18,7 +20,7 @@ use Rattle.loads.specs.declared.LoadRecord.{LoadRecord}
 use Rattle.checks.specs.declared.outcome.Check.{Check}
 use Rattle.certificates.specs.Certificates.{Certified}
 use Rattle.tables.specs.Drawn.{drawn}
-use Rattle.netfiles.specs.Reading.{Accepted, Refused, Wanting}
+use Rattle.netfiles.specs.Reading.{Accepted, Refused, FirstLine, Wanting}
 use Rattle.answers.specs.declared.Findings.{Findings}
 
 -- a number as the last field of a line, and as one that others follow
@@ -67,7 +69,7 @@ pub record Fits (s : Size) : Type 0 where
   pub channels : s.channels ≤ 128
   pub places : s.places ≤ 32
 
--- What is found of a network, whatever the buffers held before: a certificate with all that it promises of packets at work.
+-- What is found of a network: a certificate with all that it promises of packets at work, made in some buffers.
 pub record Finds (n : Net) (a : Findings) : Type 0 where
   pub channels : a.channels ≡ n.channels
   pub long : n.channels ≤ length a.numbers
@@ -117,3 +119,10 @@ pub record Starves (input : List ℕ) (f : StudyFault) : Type 0 where
 -- The answer to the input; want of memory is answered too.
 abbrev pub Answered : List ℕ → List ℕ → Type 0
 Answered input text = Answers input text ⊎ (Starves input (Table NoMemory) × (text ≡ fault_line (study_parts (Table NoMemory))))
+
+-- A fault to which memory is nothing is told whatever memory there is: that the input is too long; else that it is empty, or the fault of its
+-- first line.
+pub record EarlyTold (input text : List ℕ) : Type 0 where
+  pub long : most_bytes < length input → text ≡ fault_line (study_parts (Short File))
+  pub empty : input ≡ [] → text ≡ fault_line (study_parts (Table (Text NoSize)))
+  pub line : length input ≤ most_bytes → (l : RawLine) (ls : List RawLine) (f : TableFault) → lines_of input ≡ l ∷ ls → FirstLine l f → text ≡ fault_line (study_parts (Table f))

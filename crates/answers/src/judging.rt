@@ -4,7 +4,7 @@ ghost use Rattle.std.specs.Prelude.{◌≡◌, ◌≤◌, ◌++◌, IfOk, Some, 
 ghost use Rattle.networks.specs.declared.faults.StudyFault.{StudyFault};
 ghost use Rattle.loads.specs.Loads.{packet_in};
 ghost use Rattle.tables.specs.Meaning.{meaning_of};
-ghost use Rattle.answers.specs.Prints.{Fits};
+ghost use Rattle.answers.specs.Prints.{Fits, EarlyTold};
 ghost use Rattle.answers.specs.Rows.{bad_number, bad_at};
 ghost use Rattle.answers.specs.Judgings.{result_line, both_line, both_lines, Judged, Refereed};
 ghost use Rattle.answers.specs.Judgements.{ruling_line, Concludes, Refuses};
@@ -151,7 +151,8 @@ fn conclude(heap: Global, input: &[u8], file: &[u8]) -> Result<Judgement, Refusa
 /// The text that netcheck prints for an input and a result file: what is judged of the result, and a line for each channel, or the fault
 /// of one of them.
 pub fn judge_result(heap: Global, input: &[u8], file: &[u8]) -> Result<String, AllocError>
-    ensures { IfOk result (λ s. Refereed input.now file.now (string_bytes s)) }
+    ensures refereed { IfOk result (λ s. Refereed input.now file.now (string_bytes s)) }
+    ensures early { IfOk result (λ s. EarlyTold input.now (string_bytes s)) }
 {
     match conclude(heap, input, file) {
         Ok(judgement) => judgement_text(heap, &judgement),

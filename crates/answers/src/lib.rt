@@ -8,7 +8,7 @@ ghost use Rattle.networks.specs.declared.faults.StudyFault.TheVariants.{Short};
 ghost use Rattle.networks.specs.Faults.{study_parts};
 ghost use Rattle.networks.specs.Nets.{Net};
 ghost use Rattle.loads.specs.Loads.{packet, packet_in};
-ghost use Rattle.answers.specs.Prints.{fault_line, mark, number_of, channel_line, verdict_line, verdict_text, Fits, Finds, Takes, Accepts, Rejects, Starves, Answered};
+ghost use Rattle.answers.specs.Prints.{fault_line, mark, number_of, channel_line, verdict_line, verdict_text, Fits, Finds, Takes, Accepts, Rejects, Starves, Answered, EarlyTold};
 ghost use Rattle.tables.specs.Meaning.{meaning_of};
 
 mod judging;
@@ -193,7 +193,8 @@ fn study(heap: Global, input: &[u8]) -> Result<Findings, StudyFault>
 
 /// The text that netcheck prints for an input: the verdict and a line for each channel, or the fault.
 pub fn answer(heap: Global, input: &[u8]) -> Result<String, AllocError>
-    ensures { IfOk result (λ s. Answered input.now (string_bytes s)) }
+    ensures answered { IfOk result (λ s. Answered input.now (string_bytes s)) }
+    ensures early { IfOk result (λ s. EarlyTold input.now (string_bytes s)) }
 {
     match study(heap, input) {
         Ok(findings) => verdict_text(heap, &findings),

@@ -56,3 +56,8 @@ load_suffices n a i b j x y w (Ok p) t =
     let f = long_enough _ _ (length i) n.channels e.1 in
     (long_enough _ _ (length x) n.channels f.1).0
 load_suffices n a i b j x y w (Err f) t = tt
+
+-- and so there is room to tell of each channel, where the load is no longer than that room
+pub stands_suffice : (n : Net) (a i b j : List ℕ) (x y : List LoadRecord) (w m k : ℕ) (r : Result Check StudyFault) → Checks n a i x w r b j y → m ≡ n.channels → length x ≤ k → MatchResult r (λ _. m ≤ k) (λ _. ⊤)
+stands_suffice n a i b j x y w m k (Ok p) t e l = let f = load_suffices n a i b j x y w (Ok p) t in omega (arith, e, f, l)
+stands_suffice n a i b j x y w m k (Err f) t e l = tt

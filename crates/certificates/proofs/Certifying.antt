@@ -21,7 +21,7 @@ use Rattle.certificates.proofs.Composed.{checked_again, routed_from_before}
 use Rattle.certificates.proofs.Emptying.{emptied, not_emptied}
 use Rattle.certificates.proofs.Progress.{can_progress}
 use Rattle.certificates.proofs.Sides.{soundness, sound_lowers, least, greatest}
-use Rattle.certificates.proofs.Standing.{stands}
+use Rattle.certificates.proofs.Standing.{stands, waits}
 
 -- The buffers suffice.
 pub rooms_suffice : (n : Net) (allowed numbers load longest work : ℕ) → pairs n ≤ allowed → n.channels ≤ numbers → n.channels ≤ load → pairs n ≤ longest → pairs n ≤ work → first_short (rooms n allowed numbers load longest work) ≡ None
@@ -44,6 +44,7 @@ module _ {n : Net} (ok : Conditions n) {before table numbers numbers' : List ℕ
     stands = λ shut l m steps s run. stands n load' (c.blocked.0 shut) l m steps s run;
     least = least ok c;
     greatest = greatest ok c;
+    waits = λ other blocked can. waits n other blocked can;
     comes_home = λ free arriving l m steps records allowed run. (
       bounded n ok (number_of n longest') (longest_falls n ok before table longest longest' b r arriving) l m steps records allowed run,
       can_progress n ok (slice_index numbers') (sound_lowers ok c free) m (omega (arith, keeps_length n l m steps run)) (keeps_allowed n ok l m steps allowed run),

@@ -40,7 +40,10 @@ module _ {n : Net} {before table after : List ℕ} where
       traced = (r.traced.0, traced_twice c.traced.1 r.traced.1);
       numbered = r.numbered;
       longest = r.longest;
+      one_longest = r.one_longest;
+      unreached = r.unreached;
       endless = r.endless;
       ends = r.ends;
+      limits = r.limits;
       arriving = r.arriving;
     }

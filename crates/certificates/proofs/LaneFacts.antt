@@ -6,12 +6,12 @@ use Rattle.networks.specs.Nets.{Way}
 use Rattle.networks.proofs.Inside.{allowed_inside}
 use Rattle.loads.specs.Loads.{nothing, packet_for, At, Holds, AllowedLoad, Blocked}
 use Rattle.loads.specs.Calls.{taken}
-use Rattle.loads.specs.Runs.{Run, ends, next}
+use Rattle.loads.specs.Runs.{Run, ends, next, progress_made}
 use Rattle.loads.specs.declared.LoadRecord.{LoadRecord}
-use Rattle.loads.proofs.Refusals.{put_taken, move_taken, take_away}
-use Rattle.routes.specs.Routing.{Path, stays, moves as path_moves, Dry, Endless, circles, dry}
+use Rattle.loads.proofs.Refusals.{put_no_entry, put_taken, move_taken, take_empty, take_away}
+use Rattle.routes.specs.Routing.{Path, stays, moves as path_moves, Longest, Dry, Endless, circles, dry}
 use Rattle.certificates.specs.Lanes.{lane, lane_conditions, ahead, bare, full, crossing, waiting}
-use Rattle.certificates.specs.Promises.{SoundOfAll}
+use Rattle.certificates.specs.Promises.{SoundOfAll, cost_of_load, cost_of_run}
 
 -- the two pairs of a lane
 starts_away : (exit : Bool) → (lane exit).home 0 0 ≡ false
@@ -25,7 +25,7 @@ last_allowed : (exit : Bool) → Allowed (lane exit) 1 0
 last_allowed exit = moves (first_allowed exit) (starts_away exit) (0, omega arith, refl)
 
 -- an allowed pair is one of them
-only_two : (exit : Bool) (c d : ℕ) → Allowed (lane exit) c d → (c < 2) × (d ≡ 0)
+pub only_two : (exit : Bool) (c d : ℕ) → Allowed (lane exit) c d → (c < 2) × (d ≡ 0)
 only_two exit c d a = let x = allowed_inside (lane exit) (lane_conditions exit) a in (x.channel, omega (arith, x.place))
 
 -- the packets of the full load
@@ -34,7 +34,7 @@ full_packet exit zero d at = let x = at.1 in cc
 full_packet exit (suc zero) d at = let x = at.1 in cc
 full_packet exit (suc (suc c)) d at = absurd (omega (arith, at.0))
 
-full_holds : (exit : Bool) (c : ℕ) → c < 2 → Holds (lane exit) full c
+pub full_holds : (exit : Bool) (c : ℕ) → c < 2 → Holds (lane exit) full c
 full_holds exit zero l = (0, (omega arith, refl))
 full_holds exit (suc zero) l = (0, (omega arith, refl))
 full_holds exit (suc (suc c)) l = absurd (omega arith)
@@ -43,6 +43,15 @@ allowed_channel : (exit : Bool) (c : ℕ) → c < 2 → Allowed (lane exit) c 0
 allowed_channel exit zero l = first_allowed exit
 allowed_channel exit (suc zero) l = last_allowed exit
 allowed_channel exit (suc (suc c)) l = absurd (omega arith)
+
+pub full_at : (exit : Bool) (c d : ℕ) → Allowed (lane exit) c d → At (lane exit) full c d
+full_at exit c d a = go c d (only_two exit c d a)
+  where
+    go : (c d : ℕ) → (c < 2) × (d ≡ 0) → At (lane exit) full c d
+    go zero zero x = (x.0, refl)
+    go (suc zero) zero x = (x.0, refl)
+    go (suc (suc c)) zero x = absurd (omega (arith, x.0))
+    go c (suc d) x = absurd (omega (arith, x.1))
 
 pub full_allowed : (exit : Bool) → AllowedLoad (lane exit) full
 full_allowed exit c d at = rw (full_packet exit c d at) (allowed_channel exit c at.0)
@@ -64,16 +73,24 @@ full_blocked = record {
   full = λ c d h at w. full_holds false h (omega (arith, (way_ahead false c d h w).1));
 }
 
--- A packet crosses the lane, and one that is put behind it is refused.
-abbrev with_first : List LoadRecord
-with_first = packet_for 0 ∷ (nothing ∷ [])
+-- The packets of the full load, and one that is put behind them, cross the lane.
+abbrev one_taken : List LoadRecord
+one_taken = packet_for 0 ∷ (nothing ∷ (packet_for 0 ∷ []))
 
-pub crosses : Run (lane true) bare crossing bare
+abbrev one_moved : List LoadRecord
+one_moved = nothing ∷ (packet_for 0 ∷ (packet_for 0 ∷ []))
+
+pub crosses : Run (lane true) full crossing bare
 crosses =
-    next {m = with_first} (record { records = omega arith; entry = refl; empty = refl }, refl)
-    (next {m = with_first} (put_taken (omega arith) (omega arith) (omega arith) refl (taken (0, (omega arith, refl))), refl)
-    (next (0, 1, record { records = omega arith; stands = (omega arith, refl); away = refl; way = (omega arith, refl); empty = refl }, refl)
-    (next (record { records = omega arith; stands = (omega arith, refl); home = refl }, refl) ends)))
+    next {m = full} (put_no_entry (omega arith) (omega arith) (omega arith) refl, refl)
+    (next {m = full} (move_taken (omega arith) (omega arith, refl) refl 1 (omega arith, refl) (0, (omega arith, refl)), refl)
+    (next {m = one_taken} (record { records = omega arith; stands = (omega arith, refl); home = refl }, refl)
+    (next {m = one_moved} (0, 1, record { records = omega arith; stands = (omega arith, refl); away = refl; way = (omega arith, refl); empty = refl }, refl)
+    (next {m = one_moved} (take_empty (omega arith) (omega arith) refl, refl)
+    (next {m = full} (record { records = omega arith; entry = refl; empty = refl }, refl)
+    (next {m = one_taken} (record { records = omega arith; stands = (omega arith, refl); home = refl }, refl)
+    (next {m = one_moved} (0, 1, record { records = omega arith; stands = (omega arith, refl); away = refl; way = (omega arith, refl); empty = refl }, refl)
+    (next {m = bare} (record { records = omega arith; stands = (omega arith, refl); home = refl }, refl) ends))))))))
 
 -- Without an exit packets wait.
 pub waits : Run (lane false) full waiting full
@@ -99,6 +116,20 @@ home_or_way c d x = go c d (only_two true c d x.allowed) x.away x.no_ways
 pub nothing_endless : (c d : ℕ) → Endless (lane true) c d → ⊥
 nothing_endless c d (circles p q) = let x = path_falls q in omega (arith, x)
 nothing_endless c d (dry {h = h} p x) = home_or_way h d x
+
+-- The longest routes from the two pairs have a move and none.
+pub first_longest : (k : ℕ) → Longest (lane true) 0 0 k → k ≡ 1
+first_longest k x =
+    let above = path_falls x.some.1 in
+    let below = x.none_longer 1 1 (path_moves (first_allowed true) refl (0, omega arith, refl) stays) in
+    omega (arith, above, below)
+
+pub last_longest : (k : ℕ) → Longest (lane true) 1 0 k → k ≡ 0
+last_longest k x = omega (arith, path_falls x.some.1)
+
+-- So the moves and takes of the crossing are as many as its packets cost.
+pub costs : (g : ℕ → ℕ → ℕ) → g 0 0 ≡ 1 → g 1 0 ≡ 0 → progress_made crossing ≡ cost_of_load g (lane true) full + cost_of_run g crossing
+costs g first last = rw (first, last) refl
 
 -- Without an exit packets run dry in the last channel.
 pub last_dry : Endless (lane false) 1 0

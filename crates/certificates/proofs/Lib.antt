@@ -8,5 +8,6 @@ mod LaneCertificates
 mod LaneFacts
 mod Packets
 mod Progress
+pub mod Secrecy
 pub mod Sides
 mod Standing

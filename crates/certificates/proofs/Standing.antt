@@ -1,12 +1,12 @@
 -- No call moves a packet of a blocked load.
-use Rattle.std.proofs.Common.{◌≡◌, ℕ, ◌≢◌, List, [], ◌∷◌, Ok, Err, refl}
+use Rattle.std.proofs.Common.{◌≡◌, ℕ, ◌≢◌, true, false, List, [], ◌∷◌, Ok, Err, refl}
 use Rattle.std.proofs.lemmas.Bool.{both_ways}
 use Rattle.networks.specs.Nets.{Net, Way}
 use Rattle.loads.specs.Loads.{At, Blocked}
 use Rattle.loads.specs.Calls.{MayMove, MayTake}
-use Rattle.loads.specs.Runs.{Call, Put, MoveOn, Take, Answer, Gives, Step, Run, ends, next}
+use Rattle.loads.specs.Runs.{Call, Put, MoveOn, Take, Answer, Gives, Step, Run, ends, next, accepted, progress}
 use Rattle.loads.specs.declared.LoadRecord.{LoadRecord}
-use Rattle.certificates.specs.Promises.{OursStand}
+use Rattle.certificates.specs.Promises.{OursStand, CanProgress}
 use Rattle.certificates.proofs.Packets.{apart, at_with, at_without}
 
 module _ (n : Net) (ours : List LoadRecord) (blocked : Blocked n ours) where
@@ -40,3 +40,14 @@ module _ (n : Net) (ours : List LoadRecord) (blocked : Blocked n ours) where
   pub stands : (l m : List LoadRecord) (steps : List Step) → OursStand n ours l → Run n l steps m → OursStand n ours m
   stands l m [] s ends = s
   stands l m (step ∷ steps) s (next {m = o} gives run) = stands o m steps (stands_call l o step.call step.answer s gives) run
+
+  -- no move or take would be accepted
+  waits_call : (call : Call) (a : Answer call) (m : List LoadRecord) → progress call ≡ true → accepted call a ≡ true → Gives n ours call a m → ⊥
+  waits_call (Put e f) a m is fine gives = both_ways false refl is
+  waits_call (MoveOn e k) (Ok _) m is fine (f, h, may, same) = unmoved ours e k f h (λ c d at. at) may e f may.stands refl
+  waits_call (MoveOn e k) (Err _) m is fine gives = both_ways false refl fine
+  waits_call (Take e) (Ok f) m is fine (may, same) = untaken ours e f (λ c d at. at) may e f may.stands refl
+  waits_call (Take e) (Err _) m is fine gives = both_ways false refl fine
+
+  pub waits : CanProgress n ours → ⊥
+  waits x = waits_call x.0 x.1 x.2 x.3 x.4 x.5

@@ -1,6 +1,7 @@
 -- What certifying a network gives.
 use Rattle.std.specs.Prelude.{◌≡◌, ℕ, ◌↔◌, nat_lt, List, [], ◌∷◌, length, Some, None, Ok, Err, Result, slice_index}
 use Rattle.networks.specs.Allowed.{pairs, said}
+use Rattle.networks.specs.Cleared.{AllZero}
 use Rattle.networks.specs.Nets.{Net}
 use Rattle.networks.specs.Rooms.{Room, first_short}
 use Rattle.networks.specs.declared.faults.Buffer.{Buffer}
@@ -38,3 +39,22 @@ Certifies n allowed numbers load longest work (Ok a) allowed' numbers' load' lon
     (first_short (rooms n (length allowed) (length numbers) (length load) (length longest) work) ≡ None) × Certified n allowed allowed' numbers numbers' load load' longest longest' a
 Certifies n allowed numbers load longest work (Err f) allowed' numbers' load' longest' =
     (b : Buffer) × (first_short (rooms n (length allowed) (length numbers) (length load) (length longest) work) ≡ Some b) × (f ≡ Short b) × (allowed' ≡ allowed) × (numbers' ≡ numbers) × (load' ≡ load) × (longest' ≡ longest)
+
+-- What certifying leaves: its answer, and what stands in the buffers and in the work area.
+pub record Left : Type 0 where
+  pub answer : Result Certificate StudyFault
+  pub allowed : List ℕ
+  pub numbers : List ℕ
+  pub load : List LoadRecord
+  pub longest : List ℕ
+  pub work : List ℕ
+
+-- Certifying may leave this of buffers and a work area that held these. Lent buffers keep their lengths.
+pub record Leaves (n : Net) (allowed numbers : List ℕ) (load : List LoadRecord) (longest work : List ℕ) (x : Left) : Type 0 where
+  pub certifies : Certifies n allowed numbers load longest (length work) x.answer x.allowed x.numbers x.load x.longest
+  pub cleared : AllZero x.work
+  pub bytes : length x.allowed ≡ length allowed
+  pub each : length x.numbers ≡ length numbers
+  pub records : length x.load ≡ length load
+  pub pairs : length x.longest ≡ length longest
+  pub words : length x.work ≡ length work

@@ -1,15 +1,16 @@
 -- A lane: a network with an exit and one without, which show that whatever the promises ask for exists.
-use Rattle.std.specs.Prelude.{◌≡◌, ℕ, zero, suc, ◌-◌, ◌<◌, ◌≤◌, Bool, true, false, ◌&&◌, if◌then◌else◌, List, [], ◌∷◌, length, Ok, Err, nat_eq, slice_index}
+use Rattle.std.specs.Prelude.{◌≡◌, ℕ, zero, suc, ◌+◌, ◌-◌, ◌<◌, ◌≤◌, Bool, true, false, ◌&&◌, if◌then◌else◌, List, [], ◌∷◌, length, map, Ok, Err, nat_eq, slice_index}
 use Rattle.std.proofs.Common.{refl, arith}
 use Rattle.std.proofs.lemmas.Bool.{eqb-true, and_parts}
 use Rattle.networks.specs.Nets.{Net, Inside, Conditions}
-use Rattle.loads.specs.Loads.{nothing, packet_for, AllowedLoad, Blocked}
-use Rattle.loads.specs.Runs.{Put, MoveOn, Take, Step, Run}
+use Rattle.loads.specs.Loads.{nothing, packet_for, At, AllowedLoad, Blocked}
+use Rattle.loads.specs.Runs.{Call, Put, MoveOn, Take, Answer, Step, Run, progress_made}
 use Rattle.loads.specs.declared.LoadRecord.{LoadRecord}
-use Rattle.loads.specs.declared.faults.LoadFault.TheVariants.{ChannelTaken, NotHome, WayTaken}
+use Rattle.loads.specs.declared.faults.LoadFault.TheVariants.{NoEntry, ChannelTaken, ChannelEmpty, NotHome, WayTaken}
 use Rattle.checks.specs.declared.outcome.Verdict.TheVariants as verdicts
+use Rattle.routes.specs.Outcomes.{number_of}
 use Rattle.certificates.specs.Certificates.{Certified}
-use Rattle.certificates.specs.Promises.{SoundOfAll}
+use Rattle.certificates.specs.Promises.{CanBeEmptied, SoundOfAll, CanProgress, cost_of_load, cost_of_run}
 use Rattle.certificates.specs.declared.Certificate.{Certificate}
 
 -- the ways: to channel 1, or none
@@ -27,28 +28,46 @@ lane exit = record {
   ways = λ c d. ahead (nat_eq c 0 && nat_eq d 0);
 }
 
--- the load without packets, and the one with a packet in each channel
+-- Two loads: no packet stands in a channel, and one stands in each. The record beyond the channels is of none.
 abbrev pub bare : List LoadRecord
-bare = nothing ∷ (nothing ∷ [])
+bare = nothing ∷ (nothing ∷ (packet_for 0 ∷ []))
 
 abbrev pub full : List LoadRecord
-full = packet_for 0 ∷ (packet_for 0 ∷ [])
+full = packet_for 0 ∷ (packet_for 0 ∷ (packet_for 0 ∷ []))
 
--- A packet is put, one more is refused, and the packet moves on and is taken.
+abbrev pub step : (call : Call) → Answer call → Step
+step call answer = record { call = call; answer = answer }
+
+-- Both packets of the full load come through, and one that is put behind them. A put, a move and a take are refused.
 abbrev pub crossing : List Step
 crossing =
-    record { call = Put 0 0; answer = Ok tt }
-    ∷ (record { call = Put 0 0; answer = Err ChannelTaken } ∷ (record { call = MoveOn 0 0; answer = Ok tt } ∷ (record { call = Take 1; answer = Ok 0 } ∷ [])))
+    step (Put 1 0) (Err NoEntry) ∷ (step (MoveOn 0 0) (Err WayTaken) ∷ (step (Take 1) (Ok 0) ∷ (step (MoveOn 0 0) (Ok tt) ∷ (step (Take 0) (Err ChannelEmpty)
+    ∷ (step (Put 0 0) (Ok tt) ∷ (step (Take 1) (Ok 0) ∷ (step (MoveOn 0 0) (Ok tt) ∷ (step (Take 1) (Ok 0) ∷ []))))))))
 
 -- no packet may be put, move on or be taken
 abbrev pub waiting : List Step
-waiting =
-    record { call = Put 0 0; answer = Err ChannelTaken }
-    ∷ (record { call = MoveOn 0 0; answer = Err WayTaken } ∷ (record { call = Take 1; answer = Err NotHome } ∷ []))
+waiting = step (Put 0 0) (Err ChannelTaken) ∷ (step (MoveOn 0 0) (Err WayTaken) ∷ (step (Take 1) (Err NotHome) ∷ []))
 
--- The certificate of a lane, whatever the buffers held before. With an exit the lane is free and arriving, has a sound numbering, and
--- packets come through. Without one it is blocked, the full load is a blocked one, and its packets wait. The full load is allowed in
--- both.
+-- What is so of a lane with an exit: it has a sound numbering, and its full load can be emptied. In the crossing the packets come through. Its moves
+-- and takes are as many as the packets cost, and no run in which as much is put has more. Its calls have no other run.
+pub record Passing (n : Net) (longest : ℕ → ℕ → ℕ) : Type 0 where
+  pub sound : SoundOfAll n (λ c. 1 - c)
+  pub emptied : CanBeEmptied n full
+  pub crosses : Run n full crossing bare
+  pub costs : progress_made crossing ≡ cost_of_load longest n full + cost_of_run longest crossing
+  pub most : (steps : List Step) (m : List LoadRecord) → Run n full steps m → cost_of_run longest steps ≡ cost_of_run longest crossing → progress_made steps ≤ progress_made crossing
+  pub only : (steps : List Step) (m : List LoadRecord) → map (λ (s : Step). s.call) steps ≡ map (λ (s : Step). s.call) crossing → Run n full steps m → (steps ≡ crossing) × (m ≡ bare)
+
+-- What is so of one without: the full load is blocked, its packets wait, and no move or take would be accepted. Whatever calls are made, they have a
+-- run, after which both packets stand.
+pub record Jammed (n : Net) : Type 0 where
+  pub blocked : Blocked n full
+  pub waits : Run n full waiting full
+  pub stuck : CanProgress n full → ⊥
+  pub stays : (calls : List Call) → (steps : List Step) × (m : List LoadRecord) × (map (λ (s : Step). s.call) steps ≡ calls) × Run n full steps m × ((c : ℕ) → c < 2 → At n m c 0)
+
+-- A certificate of a lane, made in some buffers. With an exit the lane is free and arriving, and without one it is blocked. The full load is
+-- allowed in both.
 pub record LaneCertified (exit : Bool) (a : Certificate) : Type 0 where
   pub allowed : List ℕ
   pub allowed' : List ℕ
@@ -62,10 +81,8 @@ pub record LaneCertified (exit : Bool) (a : Certificate) : Type 0 where
   pub verdict : a.check.verdict ≡ (if exit then verdicts.Free else verdicts.Blocked)
   pub arriving : a.routes.arriving ≡ exit
   pub load_allowed : AllowedLoad (lane exit) full
-  pub sound : exit ≡ true → SoundOfAll (lane exit) (λ c. 1 - c)
-  pub crosses : exit ≡ true → Run (lane exit) bare crossing bare
-  pub blocked : exit ≡ false → Blocked (lane exit) full
-  pub waits : exit ≡ false → Run (lane exit) full waiting full
+  pub passing : exit ≡ true → Passing (lane exit) (number_of (lane exit) longest')
+  pub jammed : exit ≡ false → Jammed (lane exit)
 
 -- A lane keeps the limits of networks.
 few : (b : Bool) → length (ahead b) ≤ 8

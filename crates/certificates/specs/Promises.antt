@@ -66,6 +66,8 @@ pub record Promises (n : Net) (number : ℕ → ℕ) (ours : List LoadRecord) (l
   pub least : (other : ℕ → ℕ) → SoundOfAll n other → (verdict ≡ verdicts.Free) × SoundOfAll n number × ((c : ℕ) → c < n.channels → number c ≤ other c)
   -- Whatever blocked load anyone brings: the verdict is blocked, and so is our load, which has a packet wherever that one has.
   pub greatest : (other : List LoadRecord) → Blocked n other → (verdict ≡ verdicts.Blocked) × Blocked n ours × ((c : ℕ) → Holds n other c → Holds n ours c)
+  -- In a blocked load no move or take would be accepted.
+  pub waits : (other : List LoadRecord) → Blocked n other → CanProgress n other → ⊥
   -- If the verdict is free and the network arriving, then after any list of calls on an allowed load: the accepted moves and takes are
   -- at most what the packets that stood there and those that were put cost together; and if a packet stands, some move or take would
   -- be accepted.

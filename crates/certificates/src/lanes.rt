@@ -47,7 +47,7 @@ impl Network for Lane {
 
 /// Certifies the lane. Its contract shows that there are networks that are free and arriving, and blocked ones, and that whatever the
 /// promises ask for exists: allowed loads with packets, a sound numbering, a blocked load, and runs in which packets are put, move and
-/// are taken, and in which they wait.
+/// are taken, as often as they cost, and in which they wait.
 pub fn certify_lane(exit: bool) -> Result<Certificate, StudyFault>
     ensures { MatchResult result (LaneCertified exit) (λ f. ⊥) }
 {

@@ -5,7 +5,8 @@
 
 ghost use Rattle.std.specs.Prelude.{length};
 ghost use Rattle.networks.specs.Cleared.{AllZero};
-ghost use Rattle.certificates.specs.Certificates.{Certifies};
+ghost use Rattle.networks.specs.Secrecy.{Secret};
+ghost use Rattle.certificates.specs.Certificates.{Certifies, Leaves};
 
 pub mod lanes;
 
@@ -37,6 +38,7 @@ pub fn certify<N: Network>(
 ) -> Result<Certificate, StudyFault>
     ensures certifies { Certifies (N.meaning net.now) allowed.old numbers.old load.old longest.old (length work.old) result allowed.new numbers.new load.new longest.new }
     ensures cleared { AllZero work.new }
+    ensures secret { Secret (Leaves (N.meaning net.now) allowed.old numbers.old load.old longest.old) }
 {
     let guard = Cleared { words: work };
     let pairs = pair_count(net);

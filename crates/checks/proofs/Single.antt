@@ -1,14 +1,14 @@
 -- A network has one check.
-use Rattle.std.proofs.Common.{◌≡◌, ℕ, ◌<◌, ◌≤◌, ◌⊎◌, not, ◌&&◌, nat_lt, nat_eq, List, length, take, count_by, Option, Some, slice_index, inl, inr, refl, sym, ap, ◌∙◌, subst, arith}
+use Rattle.std.proofs.Common.{◌≡◌, ℕ, ◌<◌, ◌≤◌, not, ◌&&◌, nat_lt, List, length, Option, Some, slice_index, refl, sym, ap, ◌∙◌, subst, arith}
 use native.Mathlib.Decide.{ℕ_discrete, dec_lt}
 use Rattle.std.proofs.lemmas.Bool.{le-ltb}
-use Rattle.std.proofs.lemmas.List.{ext_get_or, get_or-take, length-take-le}
 use Rattle.networks.specs.Allowed.{Allowed, says_allowed, listed, said}
 use Rattle.networks.specs.Nets.{Net}
 use Rattle.networks.specs.Nets as nets
 use Rattle.numbering.specs.Systems.{System, Conditions}
 use Rattle.numbering.specs.Numbers.{held_number}
-use Rattle.numbering.specs.Outcomes.{Outcome, Greatest, count_held}
+use Rattle.numbering.specs.Outcomes.{Outcome}
+use Rattle.numbering.proofs.Secrecy.{same_answer}
 use Rattle.tracing.specs.Traces.{Traced}
 use Rattle.tracing.proofs.Tables.{tells_one}
 use Rattle.escapes.specs.Escaping.{escape, escape_conditions}
@@ -32,22 +32,8 @@ module _ (n : Net) (before table before' table' : List ℕ) (ones ones' : ℕ) (
   pub escape_same : escape n (said table) ≡ escape n (said table')
   escape_same = λ i. record { items = n.channels; slots = n.places; need = λ c d. listed_same c d i && not (n.home c d); ways = n.ways; label = (escape n (said table)).label }
 
--- there is one greatest number
-greatest_below : (s : System) (f g : ℕ → ℕ) → ((i : ℕ) → i < s.items → f i ≡ g i) → (m k : ℕ) → Greatest s f m → Greatest s g k → m ≤ k
-greatest_below s f g same m k x y = go x.given
-  where
-    go : (m ≡ 0) ⊎ ((i : ℕ) × (i < s.items) × (f i ≡ held_number → ⊥) × (f i ≡ m)) → m ≤ k
-    go (inl z) = omega (arith, z)
-    go (inr (i, l, ne, e)) = let z = y.none_above i l (λ q. ne (same i l ∙ q)) in omega (arith, z, same i l, e)
-
-greatest_same : (s : System) (f g : ℕ → ℕ) → ((i : ℕ) → i < s.items → f i ≡ g i) → (m k : ℕ) → Greatest s f m → Greatest s g k → m ≡ k
-greatest_same s f g same m k x y =
-    let p = greatest_below s f g same m k x y in
-    let q = greatest_below s g f (λ i l. sym (same i l)) k m y x in
-    omega (arith, p, q)
-
 -- one verdict
-verdict_same : (s : System) (f g : ℕ → ℕ) → ((i : ℕ) → i < s.items → f i ≡ g i) → (v w : Verdict) → Judged v s f → Judged w s g → v ≡ w
+pub verdict_same : (s : System) (f g : ℕ → ℕ) → ((i : ℕ) → i < s.items → f i ≡ g i) → (v w : Verdict) → Judged v s f → Judged w s g → v ≡ w
 verdict_same s f g same verdicts.Free verdicts.Free x y = refl
 verdict_same s f g same verdicts.Free verdicts.Blocked x (c, l, e) = absurd (x c l (same c l ∙ e))
 verdict_same s f g same verdicts.Blocked verdicts.Free (c, l, e) y = absurd (y c l (sym (same c l) ∙ e))
@@ -80,12 +66,9 @@ pub record SameCheck (n : Net) (ns ns' : List ℕ) (ls ls' : List LoadRecord) (a
   pub numbers : (c : ℕ) → c < n.channels → slice_index ns c ≡ slice_index ns' c
   pub packets : (c : ℕ) → c < n.channels → packet ls c ≡ packet ls' c
 
-count_same : (n : ℕ) (xs ys : List ℕ) → n ≤ length xs → n ≤ length ys → ((i : ℕ) → i < n → slice_index xs i ≡ slice_index ys i) → count_held n xs ≡ count_held n ys
-count_same n xs ys l m same = ap (count_by (λ word. nat_eq word held_number)) (ext_get_or 0 (take n xs) (take n ys) (length-take-le n xs l ∙ sym (length-take-le n ys m)) (λ i h. let k : i < n = omega (arith, h, length-take-le n xs l) in get_or-take n xs i 0 k ∙ same i k ∙ sym (get_or-take n ys i 0 k)))
-
 pub one_check : (n : Net) → nets.Conditions n → (b t bn tn b' t' bn' tn' : List ℕ) (bl tl bl' tl' : List LoadRecord) (a a' : Check) → n.channels ≤ length tn → n.channels ≤ length tn' → Checked n b t bn tn bl tl a → Checked n b' t' bn' tn' bl' tl' a' → SameCheck n tn tn' tl tl' a a'
 one_check n ok b t bn tn b' t' bn' tn' bl tl bl' tl' a a' long long' x y = record {
-  answers = λ i. record { verdict = verdict i; numbering = record { greatest = greatest i; held = held i } };
+  answers = λ i. record { verdict = verdict i; numbering = same_answer x.numbered other long long' i };
   numbers = same;
   packets = λ c l. packet_same s (slice_index tn) (slice_index tn') same oks c l (packet tl c) (packet tl' c) (x.ours c l) (subst (λ (z : System). OurPacket z (slice_index tn') c (packet tl' c)) (sym e) (y.ours c l));
 }
@@ -107,9 +90,3 @@ one_check n ok b t bn tn b' t' bn' tn' bl tl bl' tl' a a' long long' x y = recor
 
     verdict : a.verdict ≡ a'.verdict
     verdict = verdict_same s (slice_index tn) (slice_index tn') same a.verdict a'.verdict x.verdict (subst (λ (z : System). Judged a'.verdict z (slice_index tn')) (sym e) y.verdict)
-
-    greatest : a.numbering.greatest ≡ a'.numbering.greatest
-    greatest = greatest_same s (slice_index tn) (slice_index tn') same a.numbering.greatest a'.numbering.greatest x.numbered.greatest other.greatest
-
-    held : a.numbering.held ≡ a'.numbering.held
-    held = x.numbered.held ∙ count_same n.channels tn tn' long long' same ∙ sym other.held

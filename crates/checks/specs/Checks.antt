@@ -1,6 +1,7 @@
 -- What checking a network gives.
 use Rattle.std.specs.Prelude.{◌≡◌, ℕ, ◌<◌, ◌≤◌, ◌↔◌, true, List, [], ◌∷◌, length, Some, None, Ok, Err, Option, Result, slice_get, slice_index}
 use Rattle.networks.specs.Allowed.{pairs, said}
+use Rattle.networks.specs.Cleared.{AllZero}
 use Rattle.networks.specs.Nets.{Net}
 use Rattle.networks.specs.Rooms.{Room, first_short}
 use Rattle.networks.specs.declared.faults.Buffer.{Buffer}
@@ -65,3 +66,20 @@ Checks n allowed numbers load work (Ok a) allowed' numbers' load' =
     (first_short (rooms n allowed numbers load work) ≡ None) × Checked n allowed allowed' numbers numbers' load load' a
 Checks n allowed numbers load work (Err f) allowed' numbers' load' =
     (b : Buffer) × (first_short (rooms n allowed numbers load work) ≡ Some b) × (f ≡ Short b) × (allowed' ≡ allowed) × (numbers' ≡ numbers) × (load' ≡ load)
+
+-- What a check leaves: its answer, and what stands in the buffers and in the work area.
+pub record Left : Type 0 where
+  pub answer : Result Check StudyFault
+  pub allowed : List ℕ
+  pub numbers : List ℕ
+  pub load : List LoadRecord
+  pub work : List ℕ
+
+-- A check may leave this of buffers and a work area that held these. Lent buffers keep their lengths.
+pub record Leaves (n : Net) (allowed numbers : List ℕ) (load : List LoadRecord) (work : List ℕ) (x : Left) : Type 0 where
+  pub checks : Checks n allowed numbers load (length work) x.answer x.allowed x.numbers x.load
+  pub cleared : AllZero x.work
+  pub bytes : length x.allowed ≡ length allowed
+  pub each : length x.numbers ≡ length numbers
+  pub records : length x.load ≡ length load
+  pub words : length x.work ≡ length work

@@ -5,10 +5,11 @@
 ghost use Rattle.std.specs.Prelude.{◌≡◌, ℕ, ◌<◌, ◌≤◌, ◌↔◌, length, if◌then◌else◌, nat_eq, slice_get, slice_index, MatchOption, IsTrue};
 ghost use Rattle.networks.specs.Allowed.{said};
 ghost use Rattle.networks.specs.Cleared.{AllZero};
+ghost use Rattle.networks.specs.Secrecy.{Secret};
 ghost use Rattle.numbering.specs.Numbers.{AllNumbered, Below, held_number};
 ghost use Rattle.escapes.specs.Escaping.{escape};
 ghost use Rattle.loads.specs.Loads.{packet_in};
-ghost use Rattle.checks.specs.Checks.{Shut, LowestShut, OurPacket, Ours, Checks};
+ghost use Rattle.checks.specs.Checks.{Shut, LowestShut, OurPacket, Ours, Checks, Leaves};
 
 mod outcome;
 
@@ -100,6 +101,7 @@ pub fn check<N: Network>(
 ) -> Result<Check, StudyFault>
     ensures checks { Checks (N.meaning net.now) allowed.old numbers.old load.old (length work.old) result allowed.new numbers.new load.new }
     ensures cleared { AllZero work.new }
+    ensures secret { Secret (Leaves (N.meaning net.now) allowed.old numbers.old load.old) }
 {
     let guard = Cleared { words: work };
     let pairs = pair_count(net);

@@ -17,7 +17,7 @@ use Rattle.certificates.proofs.Sides.{sound_free}
 use Rattle.drains.specs.Drains.{Drained, Filled}
 use Rattle.drains.specs.Emptying.{Lowering, Called}
 use Rattle.drains.proofs.Advancing.{first_again}
-use Rattle.drains.proofs.Homeward.{home_lowers, moves_home, comes_home, order_total}
+use Rattle.drains.proofs.Homeward.{comes_one, home_lowers, moves_home, comes_home, order_total}
 use Rattle.drains.proofs.Single.{one_order}
 use Rattle.drains.proofs.Steps.{order_lowers}
 use Rattle.drains.proofs.Walking.{order_runs}
@@ -38,6 +38,7 @@ drained {n} ok {numbers} {l} {m} {answer} low allowed called none =
       count = called.count;
       moves = moves_home n number low.sound;
       home = comes_home n number low.sound;
+      one = λ c d m allowed comes. comes_one n number d c m (moves_home n number low.sound c d) comes (comes_home n number low.sound c d allowed);
       each = λ c d allowed. home_lowers n number d c (moves_home n number low.sound c d) (comes_home n number low.sound c d allowed);
       total = called.count ∙ total;
       bound = omega (arith, called.count, bound);

@@ -17,7 +17,7 @@ use Rattle.drains.specs.Emptying.{Advanced, taken, moved}
 use Rattle.drains.proofs.Steps.{smaller_one, next_advances, load_nothing}
 
 -- a packet comes home in one number of moves
-comes_one : (n : Net) (number : ℕ → ℕ) (d c m o : ℕ) → ComesHome n number d c m → ComesHome n number d c o → m ≡ o
+pub comes_one : (n : Net) (number : ℕ → ℕ) (d c m o : ℕ) → ComesHome n number d c m → ComesHome n number d c o → m ≡ o
 comes_one n number d c m o (home here) (home there) = refl
 comes_one n number d c m o (home here) (away far smaller rest) = absurd (both_ways (n.home c d) far here)
 comes_one n number d c m o (away far smaller rest) (home there) = absurd (both_ways (n.home c d) far there)

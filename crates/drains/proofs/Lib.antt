@@ -1,6 +1,7 @@
 mod Advancing
 pub mod Draining
 mod Homeward
+pub mod Secrecy
 mod Single
 pub mod Standing
 mod Steps

@@ -1,6 +1,7 @@
 -- What draining gives.
 use Rattle.std.specs.Prelude.{◌≡◌, ℕ, ◌<◌, ◌≤◌, List, length, Some, None, Ok, Err, Result, slice_index}
 use Rattle.networks.specs.Allowed.{Allowed, said}
+use Rattle.networks.specs.Cleared.{AllZero}
 use Rattle.networks.specs.Nets.{Net}
 use Rattle.networks.specs.Rooms.{first_short}
 use Rattle.networks.specs.declared.faults.Buffer.{Buffer}
@@ -22,9 +23,9 @@ use Rattle.drains.specs.declared.faults.DrainFault.{DrainFault}
 use Rattle.drains.specs.declared.faults.DrainFault.TheVariants.{Study, Blocked, NotAllowed}
 
 -- The load is emptied by a run in order, and no other run in order empties it. The answer is how many calls the run has: for each packet, the
--- moves that bring it home by its first ways to smaller numbers, which are at most the number of its channel, and one for being taken. So it is
--- at most the sum, over the packets, of the number of the packet's channel and one. A packet that has moved to a smaller number is the first
--- again, so it goes home before any other moves.
+-- moves that bring it home by its first ways to smaller numbers, and one for being taken. There is one number of these moves, and it is at most
+-- the number of the packet's channel. So the answer is at most the sum, over the packets, of the number of the packet's channel and one. A packet
+-- that has moved to a smaller number is the first again, so it goes home before any other moves.
 pub record Drained (n : Net) (number : ℕ → ℕ) (load load' : List LoadRecord) (answer : ℕ) : Type 0 where
   pub steps : List Step
   pub run : Run n load steps load'
@@ -35,6 +36,7 @@ pub record Drained (n : Net) (number : ℕ → ℕ) (load load' : List LoadRecor
   pub count : answer ≡ length steps
   pub moves : ℕ → ℕ → ℕ
   pub home : (c d : ℕ) → Allowed n c d → ComesHome n number d c (moves c d)
+  pub one : (c d m : ℕ) → Allowed n c d → ComesHome n number d c m → m ≡ moves c d
   pub each : (c d : ℕ) → Allowed n c d → moves c d ≤ number c
   pub total : answer ≡ cost_of_load moves n load
   pub bound : answer ≤ cost_of_load (λ c d. number c) n load
@@ -58,3 +60,20 @@ Drains n allowed numbers load work (Err Blocked) allowed' numbers' load' =
     (first_short (rooms n allowed numbers load work) ≡ None) × Filled n allowed allowed' numbers numbers' verdicts.Blocked × (load' ≡ load)
 Drains n allowed numbers load work (Err NotAllowed) allowed' numbers' load' =
     (first_short (rooms n allowed numbers load work) ≡ None) × Filled n allowed allowed' numbers numbers' verdicts.Free × (AllowedLoad n load → ⊥) × (load' ≡ load)
+
+-- What draining leaves: its answer, and what stands in the buffers and in the work area.
+pub record Left : Type 0 where
+  pub answer : Result ℕ DrainFault
+  pub allowed : List ℕ
+  pub numbers : List ℕ
+  pub load : List LoadRecord
+  pub work : List ℕ
+
+-- Draining may leave this of buffers and a work area that held these. Lent buffers keep their lengths.
+pub record Leaves (n : Net) (allowed numbers : List ℕ) (load : List LoadRecord) (work : List ℕ) (x : Left) : Type 0 where
+  pub drains : Drains n allowed numbers load (length work) x.answer x.allowed x.numbers x.load
+  pub cleared : AllZero x.work
+  pub bytes : length x.allowed ≡ length allowed
+  pub each : length x.numbers ≡ length numbers
+  pub records : length x.load ≡ length load
+  pub words : length x.work ≡ length work

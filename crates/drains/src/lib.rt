@@ -4,9 +4,10 @@
 
 ghost use Rattle.std.specs.Prelude.{◌≡◌, ◌<◌, ◌≤◌, ◌↔◌, length, IsTrue, ℕ, true};
 ghost use Rattle.networks.specs.Cleared.{AllZero};
+ghost use Rattle.networks.specs.Secrecy.{Secret};
 ghost use Rattle.networks.specs.Allowed.{said, listed};
 ghost use Rattle.loads.specs.Loads.{packet, At};
-ghost use Rattle.drains.specs.Drains.{Drains};
+ghost use Rattle.drains.specs.Drains.{Drains, Leaves};
 ghost use Rattle.drains.specs.Emptying.{may_stand};
 
 mod emptying;
@@ -51,6 +52,7 @@ pub fn drain<N: Network>(
 ) -> Result<usize, DrainFault>
     ensures drains { Drains (N.meaning net.now) allowed.old numbers.old load.old (length work.old) result allowed.new numbers.new load.new }
     ensures cleared { AllZero work.new }
+    ensures secret { Secret (Leaves (N.meaning net.now) allowed.old numbers.old load.old) }
 {
     let guard = Cleared { words: work };
     let pairs = pair_count(net);

@@ -1,41 +1,23 @@
 -- What the entry gives for a file is the only thing that it may give.
-use Rattle.std.proofs.Common.{◌≡◌, ℕ, ◌/◌, ◌%◌, ◌<◌, List, Some, None, Ok, Err, slice_index, sym, ap, ◌∙◌, subst, arith}
+use Rattle.std.proofs.Common.{◌≡◌, ℕ, ◌<◌, List, Some, None, Ok, Err, slice_index, refl, sym, ap, ◌∙◌, subst, inl, inr, arith}
 use native.Mathlib.Decide.{dec_lt}
-use Rattle.std.proofs.lemmas.Nat.{div-add-mod'}
-use Rattle.networks.specs.Allowed.{pairs, position}
+use Rattle.records.specs.declared.faults.TextFault.TheVariants.{NoSize}
 use Rattle.networks.specs.Faults.{study_parts}
 use Rattle.networks.specs.Nets.{Net, Conditions}
 use Rattle.networks.specs.declared.faults.StudyFault.{StudyFault}
 use Rattle.networks.specs.declared.faults.StudyFault.TheVariants.{Table, Short}
+use Rattle.networks.specs.declared.faults.TableFault.{TableFault}
+use Rattle.networks.specs.declared.faults.TableFault.TheVariants.{Text, NoMemory}
 use Rattle.tables.specs.Drawn.{drawn}
 use Rattle.tables.specs.Makes.{most}
 use Rattle.tables.proofs.Limits.{drawn_conditions}
-use Rattle.tracing.specs.Traces.{Traced}
-use Rattle.tracing.proofs.Positions.{channel_below, place_below}
-use Rattle.tracing.proofs.Tables.{tells_one}
-use Rattle.netfiles.proofs.Readings.{one_reading}
+use Rattle.tracing.proofs.Secrecy.{same_bytes}
+use Rattle.netfiles.specs.Reading.{Refused, empty, first, Wanting}
+use Rattle.netfiles.proofs.Readings.{one_reading, no_line, first_later}
 use Rattle.checks.proofs.Single.{one_check, SameCheck}
 use Rattle.checks.specs.declared.outcome.Check.{Check}
 use Rattle.checks.specs.declared.outcome.Verdict.{Verdict}
-use Rattle.editor.specs.Entry.{number_told, Buffers, place_word, with_place, Takes, short_of, Found, Judged, Reason, refused, short, Told, Gives, judges, refuses, Same, Enters}
-
--- one table of allowed pairs
-bytes_same : (n : Net) → Conditions n → (a t t' : List ℕ) (ones ones' : ℕ) → Traced n a t ones → Traced n a t' ones' → (k : ℕ) → slice_index t k ≡ slice_index t' k
-bytes_same n ok a t t' ones ones' x y k = go (dec_lt k (pairs n))
-  where
-    c : ℕ
-    c = k / n.places
-
-    d : ℕ
-    d = k % n.places
-
-    go : Dec (k < pairs n) → slice_index t k ≡ slice_index t' k
-    go (no h) = x.beyond k (omega (arith, h)) ∙ sym (y.beyond k (omega (arith, h)))
-    go (yes h) =
-        let l = channel_below n ok k h in
-        let m = place_below n ok k in
-        let e : position n c d ≡ k = omega (arith, div-add-mod' k n.places) in
-        subst (λ (i : ℕ). slice_index t i ≡ slice_index t' i) e (tells_one _ _ _ (x.bytes c d l m) (y.bytes c d l m))
+use Rattle.editor.specs.Entry.{number_told, Buffers, place_word, with_place, Takes, short_of, Found, Judged, Reason, refused, short, Told, Gives, judges, refuses, Same, Enters, Starves, Starved, Entered, FirstTold}
 
 -- one check of a network
 module _ (n : Net) (ok : Conditions n) (before : Buffers) (v w : Verdict) (after other : Buffers) (x : Found n before v after) (y : Found n before w other) where
@@ -46,7 +28,7 @@ module _ (n : Net) (ok : Conditions n) (before : Buffers) (v w : Verdict) (after
   verdict_one = y.verdict ∙ ap (λ (k : Check). k.verdict) (sym same.answers) ∙ sym x.verdict
 
   allowed_one : (k : ℕ) → slice_index other.allowed k ≡ slice_index after.allowed k
-  allowed_one = bytes_same n ok before.allowed other.allowed after.allowed y.checked.traced.0 x.checked.traced.0 y.checked.traced.1 x.checked.traced.1
+  allowed_one = same_bytes ok y.checked.traced.1 x.checked.traced.1
 
   numbers_one : (k : ℕ) → slice_index other.numbers k ≡ slice_index after.numbers k
   numbers_one k = go (dec_lt k n.channels)
@@ -116,3 +98,22 @@ module _ (file : List ℕ) where
         one (judges v j e) q other (refuses g k t d) = absurd (judged_or_refused v after g j k)
         one (refuses f j t e) q other (judges w k d) = absurd (judged_or_refused w other f k j)
         one (refuses f j t e) q other (refuses g k u d) = let z = reason_one f g j k in (d ∙ ap (λ (h : StudyFault). number_told (Err h)) z ∙ sym e, told_one f g after other z t u)
+
+    pub starved : (r : ℕ) (after : Buffers) → Starves file before r after → Starved file before r after
+    starved r after x = record { starves = x; only = λ q other y. (y.number ∙ sym x.number, told_one (Table NoMemory) (Table NoMemory) after other refl x.told y.told) }
+
+    -- a fault that memory does not bear on is told
+    fault_told : (r : ℕ) (after : Buffers) → Entered file before work r after → (t : TableFault) → Refused file most t → (Wanting file NoMemory → ⊥) → r ≡ number_told (Err (Table t))
+    fault_told r after (inl x) t bad spared = go x.gives
+      where
+        go : Gives file before work r after → r ≡ number_told (Err (Table t))
+        go (judges v j e) = absurd ((one_reading file most).never_both j.takes.size j.takes.list t j.takes.accepted bad)
+        go (refuses f j told e) = e ∙ ap (λ (h : StudyFault). number_told (Err h)) (reason_one (Table t) f (refused t bad refl) j)
+    fault_told r after (inr x) t bad spared = absurd (spared x.starves.wanting)
+
+    pub first_told : (r : ℕ) (after : Buffers) → Entered file before work r after → FirstTold file r
+    first_told r after x =
+        record {
+          empty = λ e. fault_told r after x (Text NoSize) (empty e refl) (λ w. no_line e w.lines);
+          line = λ l ls t e y. fault_told r after x t (first l ls e y) (λ w. first_later w.size t e w.lines w.says w.fits y);
+        }

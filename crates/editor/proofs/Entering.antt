@@ -12,7 +12,7 @@ use Rattle.netfiles.specs.declared.reading.NetworkFile.{NetworkFile}
 use Rattle.checks.specs.declared.outcome.Verdict.{Verdict}
 use Rattle.editor.specs.Entry.{number_told, Buffers, with_place, Found, Reason, refused, short, judges, refuses, Entered}
 use Rattle.editor.specs.Steps.{OfNet, OfFile}
-use Rattle.editor.proofs.Alike.{enters}
+use Rattle.editor.proofs.Alike.{enters, starved}
 
 -- a file that is refused, and one that is accepted
 pub unread : (file : List ℕ) (b : Buffers) (work : ℕ) (t : TableFault) → TableRead file most (Err t) → OfFile file b work (Err (Table t)) b
@@ -51,7 +51,7 @@ module _ (file a n p a' n' p' f : List ℕ) (work : ℕ) where
         fault = refl;
       }) e))
   told g r (inr (w, is), same) e =
-      inr (record {
+      inr (starved file (lent f) work r (left (with_place (study_parts g) f)) (record {
         wanting = w;
         told = record {
           allowed = ap (λ (x : Buffers). x.allowed) same;
@@ -60,4 +60,4 @@ module _ (file a n p a' n' p' f : List ℕ) (work : ℕ) where
           fault = ap (λ (h : StudyFault). with_place (study_parts h) f) is;
         };
         number = e ∙ ap (λ (h : StudyFault). number_told (Err h)) is;
-      })
+      }))

@@ -1,9 +1,12 @@
 -- What the editor's entry gives: a number for the bytes of a network file, and what it leaves in the lent buffers.
 use Rattle.std.specs.Prelude.{◌≡◌, ℕ, ◌<◌, ◌≤◌, ◌⊎◌, min, List, [], ◌∷◌, length, Option, Some, None, Ok, Err, Result, slice_index}
+use Rattle.lines.specs.Pieces.{RawLine, lines_of}
 use Rattle.records.specs.declared.Record.{Record}
 use Rattle.records.specs.declared.Size.{Size}
 use Rattle.records.specs.declared.faults.Parts.{Parts}
+use Rattle.records.specs.declared.faults.TextFault.TheVariants.{NoSize}
 use Rattle.networks.specs.Allowed.{pairs}
+use Rattle.networks.specs.Cleared.{AllZero}
 use Rattle.networks.specs.Faults.{study_parts}
 use Rattle.networks.specs.Nets.{Net}
 use Rattle.networks.specs.Rooms.{Room, first_short}
@@ -12,10 +15,10 @@ use Rattle.networks.specs.declared.faults.Buffer.TheVariants as buffer
 use Rattle.networks.specs.declared.faults.StudyFault.{StudyFault}
 use Rattle.networks.specs.declared.faults.StudyFault.TheVariants.{Table, Short}
 use Rattle.networks.specs.declared.faults.TableFault.{TableFault}
-use Rattle.networks.specs.declared.faults.TableFault.TheVariants.{NoMemory}
+use Rattle.networks.specs.declared.faults.TableFault.TheVariants.{Text, NoMemory}
 use Rattle.tables.specs.Drawn.{drawn}
 use Rattle.tables.specs.Makes.{most}
-use Rattle.netfiles.specs.Reading.{Accepted, Refused, Wanting}
+use Rattle.netfiles.specs.Reading.{Accepted, Refused, FirstLine, Wanting}
 use Rattle.loads.specs.Loads.{packet}
 use Rattle.loads.specs.declared.LoadRecord.{LoadRecord}
 use Rattle.checks.specs.Checks.{Checked}
@@ -130,6 +133,32 @@ pub record Starves (file : List ℕ) (before : Buffers) (r : ℕ) (after : Buffe
   pub told : Told before (Table NoMemory) after
   pub number : r ≡ number_told (Err (Table NoMemory))
 
+-- This is what want of memory leaves, and nothing else is.
+pub record Starved (file : List ℕ) (before : Buffers) (r : ℕ) (after : Buffers) : Type 0 where
+  pub starves : Starves file before r after
+  pub only : (q : ℕ) (other : Buffers) → Starves file before q other → (q ≡ r) × Same other after
+
 -- What the entry gives; want of memory is told too.
 abbrev pub Entered : List ℕ → Buffers → ℕ → ℕ → Buffers → Type 0
-Entered file before work r after = Enters file before work r after ⊎ Starves file before r after
+Entered file before work r after = Enters file before work r after ⊎ Starved file before r after
+
+-- Whatever memory there is, a fault of the first line is told, and so is that there is no line.
+pub record FirstTold (file : List ℕ) (r : ℕ) : Type 0 where
+  pub empty : lines_of file ≡ [] → r ≡ number_told (Err (Table (Text NoSize)))
+  pub line : (l : RawLine) (ls : List RawLine) (t : TableFault) → lines_of file ≡ l ∷ ls → FirstLine l t → r ≡ number_told (Err (Table t))
+
+-- What a call of the entry leaves: its number, and what stands in the buffers and in the work area.
+pub record Left : Type 0 where
+  pub number : ℕ
+  pub buffers : Buffers
+  pub work : List ℕ
+
+-- Where memory is to be had, the entry may leave this for the file, of buffers and a work area that held these. Lent buffers keep their lengths.
+pub record Leaves (file : List ℕ) (before : Buffers) (work : List ℕ) (x : Left) : Type 0 where
+  pub gives : Gives file before (length work) x.number x.buffers
+  pub cleared : AllZero x.work
+  pub bytes : length x.buffers.allowed ≡ length before.allowed
+  pub each : length x.buffers.numbers ≡ length before.numbers
+  pub places : length x.buffers.places ≡ length before.places
+  pub fault : length x.buffers.fault ≡ length before.fault
+  pub words : length x.work ≡ length work

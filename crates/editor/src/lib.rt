@@ -4,9 +4,10 @@
 
 ghost use Rattle.std.specs.Prelude.{◌≡◌, ◌≤◌, [], length, Ok};
 ghost use Rattle.networks.specs.Cleared.{AllZero};
+ghost use Rattle.networks.specs.Secrecy.{Secret};
 ghost use Rattle.tables.specs.Meaning.{meaning_of};
 ghost use Rattle.loads.specs.Loads.{packet_in};
-ghost use Rattle.editor.specs.Entry.{number_told, place_word, Places, word, with_place, Entered};
+ghost use Rattle.editor.specs.Entry.{number_told, place_word, Places, word, with_place, Entered, FirstTold, Leaves};
 ghost use Rattle.editor.specs.Steps.{OfNet, OfFile};
 
 use checks::{Verdict, check};
@@ -123,7 +124,9 @@ pub extern "C" fn tenvarog_check(
     fault: &mut [u32],
 ) -> u32
     ensures enters { Entered file.now (record { allowed = allowed.old; numbers = numbers.old; places = places.old; fault = fault.old }) (length work.old) result (record { allowed = allowed.new; numbers = numbers.new; places = places.new; fault = fault.new }) }
+    ensures first { FirstTold file.now result }
     ensures cleared { AllZero work.new }
+    ensures secret { Secret (Leaves file.now (record { allowed = allowed.old; numbers = numbers.old; places = places.old; fault = fault.old })) }
 {
     match study(heap, file, allowed, numbers, places, work) {
         Ok(verdict) => number_of(verdict),

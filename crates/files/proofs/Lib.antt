@@ -4,4 +4,6 @@ mod Letters
 pub mod LineByLine
 pub mod OneAnswer
 pub mod OneLine
+mod OneSaying
+mod Rewritten
 mod Written

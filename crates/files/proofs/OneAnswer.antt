@@ -96,7 +96,7 @@ first_bad_one n (a ∷ good) (b ∷ good') rest rest' bad bad' (r ∷ rs) (q ∷
     let v : length (b ∷ good') + n ≡ length good' + suc n = omega arith in
     first_bad_one (suc n) good good' rest rest' bad bad' rs rs' f g i h.1 h'.1 (rw u at x) (rw v at y)
 
-fault_one : (file : List ℕ) (f g : TextFault) → FileFault file f → FileFault file g → f ≡ g
+pub fault_one : (file : List ℕ) (f g : TextFault) → FileFault file f → FileFault file g → f ≡ g
 fault_one file f g (empty e i) (empty d j) = i ∙ sym j
 fault_one file f g (empty e i) (first l ls d y) = let z : ◌≡◌ {A = ℕ} 0 1 = cc in absurd (omega arith)
 fault_one file f g (empty e i) (later l bad good rest t qs d k m y) = let z : ◌≡◌ {A = ℕ} 0 1 = cc in absurd (omega arith)

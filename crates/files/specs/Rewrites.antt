@@ -18,3 +18,7 @@ Rewrites file old (Ok end) new = Readable file × Wrote file 0 old new end
 Rewrites file old (Err (Text f)) new = FileFault file f × (new ≡ old)
 Rewrites file old (Err (Line NoRoom)) new = Readable file × (length old < length file) × (new ≡ old)
 Rewrites file old (Err (Line LargeNumber)) new = ⊥
+
+-- No other answer and no other bytes meet this.
+abbrev pub OnlyRewrites : List ℕ → List ℕ → Result ℕ RewriteFault → List ℕ → Type 0
+OnlyRewrites file old r new = (q : Result ℕ RewriteFault) (bytes : List ℕ) → Rewrites file old q bytes → (q ≡ r) × (bytes ≡ new)

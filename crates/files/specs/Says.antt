@@ -110,3 +110,8 @@ pub data FileFault (file : List ℕ) (f : TextFault) : Type 0 where
   empty : lines_of file ≡ [] → f ≡ NoSize → FileFault file f
   first : (l : RawLine) (ls : List RawLine) → lines_of file ≡ l ∷ ls → SizeFault l f → FileFault file f
   later : (l bad : RawLine) (good rest : List RawLine) (s : Size) (rs : List Record) → lines_of file ≡ l ∷ (good ++ (bad ∷ rest)) → SaysSize l s → SayRecords good rs → RecordFault (length good + 2) bad f → FileFault file f
+
+-- A line says one thing or has one fault, never both and never two: whatever two say of the first line, or of the next one, is the same.
+pub record OneSaying : Type 0 where
+  pub first : (ls : List RawLine) (r q : Result Size TextFault) → FirstSays ls r → FirstSays ls q → r ≡ q
+  pub next : (n m k : ℕ) (ls left rest : List RawLine) (r q : Option (Result Record TextFault)) → NextSays n ls r m left → NextSays n ls q k rest → (r ≡ q) × (m ≡ k) × (left ≡ rest)

@@ -4,7 +4,7 @@ ghost use Rattle.std.specs.Prelude.{◌≡◌, ◌+◌, length, drop, MatchResul
 ghost use Rattle.std.specs.Iterator.{item_count};
 ghost use Rattle.lines.specs.Pieces.{raw, lines_of};
 ghost use Rattle.files.specs.ReaderView.{ReaderView};
-ghost use Rattle.files.specs.Says.{SaysSize, SizeFault, SaysRecord, RecordFault, FirstSays, NextSays};
+ghost use Rattle.files.specs.Says.{SaysSize, SizeFault, SaysRecord, RecordFault, FirstSays, NextSays, OneSaying};
 
 use crate::fields::{numbers, split_letter};
 use lines::{Line, Lines};
@@ -74,10 +74,12 @@ impl<'a> Model for Reader<'a> {
 
 impl<'a> Reader<'a> {
     /// A reader whose next record is that of the second line.
+    #[tactic(auto, using(crate::proofs::OneSaying::one_saying))]
     pub fn new(file: &'a [u8]) -> Reader<'a>
         ensures file { result.file ≡ file.now }
         ensures lines { result.left ≡ drop 1 (lines_of file.now) }
         ensures passed { result.passed + length result.left ≡ length (lines_of file.now) }
+        ensures one { OneSaying }
     {
         let mut lines = Lines::new(file);
         let _ = lines.next();

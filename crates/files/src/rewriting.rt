@@ -1,7 +1,7 @@
 //! Writing a network file anew from what it says.
 
 ghost use Rattle.std.specs.Prelude.{◌≡◌};
-ghost use Rattle.files.specs.Rewrites.{Rewrites};
+ghost use Rattle.files.specs.Rewrites.{Rewrites, OnlyRewrites};
 ghost use Rattle.files.specs.declared.rewriting.RewriteFault.TheVariants.{Text, Line};
 
 use crate::judging::judge;
@@ -38,7 +38,8 @@ impl From<WriteFault> for RewriteFault {
 /// Reads a file and writes what it says into `out`, from its start on: the same bytes. Answers where they end. A refusal
 /// writes nothing.
 pub fn rewrite(file: &[u8], out: &mut [u8]) -> Result<usize, RewriteFault>
-    ensures { Rewrites file.now out.old result out.new }
+    ensures rewrites { Rewrites file.now out.old result out.new }
+    ensures only { OnlyRewrites file.now out.old result out.new }
 {
     judge(file)?;
     if out.len() < file.len() {

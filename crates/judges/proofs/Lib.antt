@@ -1,3 +1,4 @@
 mod Judging
 mod NeedSearch
 mod PacketSearch
+mod Secrecy

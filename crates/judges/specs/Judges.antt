@@ -1,6 +1,7 @@
 -- What judging gives.
 use Rattle.std.specs.Prelude.{◌≡◌, ℕ, ◌<◌, ◌≤◌, ◌↔◌, true, false, nat_lt, List, [], ◌∷◌, length, Some, None, Ok, Err, Result, slice_index}
 use Rattle.networks.specs.Allowed.{Allowed, pairs, said}
+use Rattle.networks.specs.Cleared.{AllZero}
 use Rattle.networks.specs.Nets.{Net}
 use Rattle.networks.specs.Rooms.{Room, first_short}
 use Rattle.networks.specs.declared.faults.Buffer.{Buffer}
@@ -73,3 +74,22 @@ JudgesLoad n allowed load work (Ok a) allowed' =
     (first_short (rooms n (length allowed) buffer.Load (length load) work) ≡ None) × LoadTried n allowed allowed' load a
 JudgesLoad n allowed load work (Err f) allowed' =
     (b : Buffer) × (first_short (rooms n (length allowed) buffer.Load (length load) work) ≡ Some b) × (f ≡ Short b) × (allowed' ≡ allowed)
+
+-- What judging leaves: its answer, and what stands in the table and in the work area.
+pub record Left (Judged : Type 0) : Type 0 where
+  pub answer : Result Judged StudyFault
+  pub allowed : List ℕ
+  pub work : List ℕ
+
+-- Judging of numbers, and of a load, may leave this of a table and a work area that held these. Lent buffers keep their lengths.
+pub record LeavesOfNumbers (n : Net) (allowed numbers work : List ℕ) (x : Left NumbersJudged) : Type 0 where
+  pub judges : JudgesNumbers n allowed numbers (length work) x.answer x.allowed
+  pub cleared : AllZero x.work
+  pub bytes : length x.allowed ≡ length allowed
+  pub words : length x.work ≡ length work
+
+pub record LeavesOfLoad (n : Net) (allowed : List ℕ) (load : List LoadRecord) (work : List ℕ) (x : Left LoadJudged) : Type 0 where
+  pub judges : JudgesLoad n allowed load (length work) x.answer x.allowed
+  pub cleared : AllZero x.work
+  pub bytes : length x.allowed ≡ length allowed
+  pub words : length x.work ≡ length work

@@ -4,7 +4,8 @@
 
 ghost use Rattle.std.specs.Prelude.{length};
 ghost use Rattle.networks.specs.Cleared.{AllZero};
-ghost use Rattle.judges.specs.Judges.{JudgesNumbers, JudgesLoad};
+ghost use Rattle.networks.specs.Secrecy.{Secret};
+ghost use Rattle.judges.specs.Judges.{JudgesNumbers, JudgesLoad, LeavesOfNumbers, LeavesOfLoad};
 
 mod needs;
 mod packets;
@@ -50,6 +51,7 @@ pub fn judge_numbers<N: Network>(
 ) -> Result<NumbersJudged, StudyFault>
     ensures judges { JudgesNumbers (N.meaning net.now) allowed.old numbers.now (length work.old) result allowed.new }
     ensures cleared { AllZero work.new }
+    ensures secret { Secret (LeavesOfNumbers (N.meaning net.now) allowed.old numbers.now) }
 {
     let guard = Cleared { words: work };
     let pairs = pair_count(net);
@@ -74,6 +76,7 @@ pub fn judge_load<N: Network>(
 ) -> Result<LoadJudged, StudyFault>
     ensures judges { JudgesLoad (N.meaning net.now) allowed.old load.now (length work.old) result allowed.new }
     ensures cleared { AllZero work.new }
+    ensures secret { Secret (LeavesOfLoad (N.meaning net.now) allowed.old load.now) }
 {
     let guard = Cleared { words: work };
     let pairs = pair_count(net);

@@ -2,7 +2,9 @@
 
 #![tactic(auto)]
 
-ghost use Rattle.std.specs.Prelude.{◌≡◌, take, IfOk, IfSome};
+ghost use Rattle.std.specs.Prelude.{◌≡◌, ℕ, List, ◌+◌, take, IfOk, IfSome, string_bytes};
+ghost use Rattle.answers.specs.Judgings.{Refereed};
+ghost use Rattle.answers.specs.Prints.{most_bytes, Answered};
 
 use answers::{LIMIT, answer, judge_result};
 use anyhow::{Context, Result, bail};
@@ -41,7 +43,7 @@ const MAX_READ: u64 = LIMIT as u64 + 1;
 
 // Reads the input to its end, or so many bytes.
 fn read_input<R: Read>(heap: Global, input: &mut R) -> io::Result<Vec<u8>>
-    ensures { IfOk result (λ v. IfSome (R.remaining input.old) (λ bytes. v.items ≡ take MAX_READ bytes)) }
+    ensures { IfOk result (λ v. IfSome (R.remaining input.old) (λ bytes. v.items ≡ take (most_bytes + 1) bytes)) }
 {
     let mut bytes = Vec::new(heap);
     input.take(MAX_READ).read_to_end(&mut bytes)?;
@@ -53,17 +55,32 @@ fn read_file(rt: &HostRuntime, path: &str) -> io::Result<Vec<u8>> {
     read_input(rt.alloc(), &mut File::open(rt, path)?)
 }
 
+// The answer to all of the input, however long it is.
+fn answer_input<R: Read>(heap: Global, input: &mut R) -> Result<String>
+    ensures { IfOk result (λ s. IfSome (R.remaining input.old) (λ bytes. Answered bytes (string_bytes s))) }
+{
+    let bytes = read_input(heap, input)?;
+    Ok(answer(heap, bytes.as_slice())?)
+}
+
+// What is judged of a result file for all of the input. Of a file that is cut off behind the first byte too many, it is what is judged of the
+// whole file.
+fn judge_input<R: Read>(heap: Global, input: &mut R, file: &[u8]) -> Result<String>
+    ensures { IfOk result (λ s. IfSome (R.remaining input.old) (λ bytes. (whole : List ℕ) → file.now ≡ take (most_bytes + 1) whole → Refereed bytes whole (string_bytes s))) }
+{
+    let bytes = read_input(heap, input)?;
+    Ok(judge_result(heap, bytes.as_slice(), file)?)
+}
+
 fn check_input(rt: &HostRuntime) -> Result<()> {
-    let input = read_input(rt.alloc(), &mut rt.stdin())?;
-    let text = answer(rt.alloc(), input.as_slice())?;
+    let text = answer_input(rt.alloc(), &mut rt.stdin())?;
     rt.stdout().write_all(text.as_bytes())?;
     Ok(())
 }
 
 fn judge_file(rt: &HostRuntime, path: &str) -> Result<()> {
     let file = read_file(rt, path).context(format_args!("{path}"))?;
-    let input = read_input(rt.alloc(), &mut rt.stdin())?;
-    let text = judge_result(rt.alloc(), input.as_slice(), file.as_slice())?;
+    let text = judge_input(rt.alloc(), &mut rt.stdin(), file.as_slice())?;
     rt.stdout().write_all(text.as_bytes())?;
     Ok(())
 }

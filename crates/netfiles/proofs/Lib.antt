@@ -1,4 +1,6 @@
 mod ByLine
+mod OnlyReadings
+mod OnlyWriting
 pub mod Readings
 mod Stores
 mod Totals

@@ -82,7 +82,7 @@ module _ (file : List ℕ) (s : Size) (rs : List Record) (reads : Reads file s r
       let st : t ≡ s = size_one l t s says (head_is l _ e) in
       no_bad_line s (rows rs) good tail bad rs qs (length good + 2) f (rows_say rs reads.small) fit i k (subst (λ (z : Size). LaterLine z qs (length good + 2) bad f) st x)
 
-never_both : (file : List ℕ) (room : ℕ) (s : Size) (rs : List Record) (f : TableFault) → Accepted file room s rs → Refused file room f → ⊥
+pub never_both : (file : List ℕ) (room : ℕ) (s : Size) (rs : List Record) (f : TableFault) → Accepted file room s rs → Refused file room f → ⊥
 never_both file room s rs f a (empty e i) = some_line file s rs a.reads a.size a.fit e
 never_both file room s rs f a (first l ls e x) = first_or_good l s f (head_is file s rs a.reads a.size a.fit l ls e) a.size x
 never_both file room s rs f a (later l bad good rest t qs e says fits k fit x) = no_later file s rs a.reads a.size a.fit l bad good rest t qs f e says k x
@@ -113,17 +113,17 @@ later_one l l' bad bad' good good' rest rest' s s' rs rs' f g e says says' k k' 
     go (before m p) = absurd (no_bad_line s good' good m bad rs' rs (length good + 2) f k' (subst (λ (z : Size). Fit z rs') ss fit') p k x)
     go (after m p) = absurd (no_bad_line s good good' m bad' rs rs' (length good' + 2) g k fit p k' (subst (λ (z : Size). LaterLine z rs' (length good' + 2) bad' g) ss y))
 
-no_line : {l : RawLine} {ls xs : List RawLine} → xs ≡ [] → xs ≡ l ∷ ls → ⊥
+pub no_line : {l : RawLine} {ls xs : List RawLine} → xs ≡ [] → xs ≡ l ∷ ls → ⊥
 no_line e d = let z : ◌≡◌ {A = ℕ} 0 1 = cc in omega arith
 
 heads : {l l' : RawLine} {ls ls' xs : List RawLine} → xs ≡ l ∷ ls → xs ≡ l' ∷ ls' → l ≡ l'
 heads e d = cc
 
 -- a fault of the first line, and a file whose first line is in order
-first_later : {l l' : RawLine} {ls ls' xs : List RawLine} (s : Size) (f : TableFault) → xs ≡ l ∷ ls → xs ≡ l' ∷ ls' → SaysSize l' s → SizeFits s → FirstLine l f → ⊥
+pub first_later : {l l' : RawLine} {ls ls' xs : List RawLine} (s : Size) (f : TableFault) → xs ≡ l ∷ ls → xs ≡ l' ∷ ls' → SaysSize l' s → SizeFits s → FirstLine l f → ⊥
 first_later {l} s f e d says fits x = first_or_good l s f (subst (λ (z : RawLine). SaysSize z s) (sym (heads e d)) says) fits x
 
-one_fault : (file : List ℕ) (room : ℕ) (f g : TableFault) → Refused file room f → Refused file room g → f ≡ g
+pub one_fault : (file : List ℕ) (room : ℕ) (f g : TableFault) → Refused file room f → Refused file room g → f ≡ g
 one_fault file room f g (empty e i) (empty d j) = i ∙ sym j
 one_fault file room f g (empty e i) (first l ls d y) = absurd (no_line e d)
 one_fault file room f g (empty e i) (later l bad good rest t qs d says fits k fit y) = absurd (no_line e d)

@@ -76,3 +76,23 @@ TableRead file room (Err f) = Refused file room f ⊎ Wanting file f
 abbrev pub Reading : List ℕ → List Record → Result Summary TableFault → List Record → Type 0
 Reading file before (Ok a) after = (rs : List Record) × Accepted file (length before) a.size rs × (a.records ≡ length rs) × (after ≡ rs ++ drop (length rs) before)
 Reading file before (Err f) after = (Refused file (length before) f ⊎ Wanting file f) × (after ≡ before)
+
+-- A fault of the first line is told, whatever memory there is, and so is that there is no line.
+pub record FirstTold {A : Type 0} (file : List ℕ) (r : Result A TableFault) : Type 0 where
+  pub empty : lines_of file ≡ [] → r ≡ Err (Text NoSize)
+  pub line : (l : RawLine) (ls : List RawLine) (f : TableFault) → lines_of file ≡ l ∷ ls → FirstLine l f → r ≡ Err f
+
+-- two answers tell the same: one size, one number of records and one network, or one fault
+abbrev pub SameTold : Result NetworkFile TableFault → Result NetworkFile TableFault → Type 0
+SameTold (Ok a) (Ok b) = (a.summary ≡ b.summary) × (meaning_of a.table ≡ meaning_of b.table)
+SameTold (Ok a) (Err g) = ⊥
+SameTold (Err f) (Ok b) = ⊥
+SameTold (Err f) (Err g) = f ≡ g
+
+-- No other answer tells anything else, but for want of memory.
+abbrev pub OnlyTable : List ℕ → ℕ → Result NetworkFile TableFault → Type 0
+OnlyTable file room r = (q : Result NetworkFile TableFault) → TableRead file room q → (r ≡ Err NoMemory) ⊎ ((q ≡ Err NoMemory) ⊎ SameTold q r)
+
+-- No other answer and no other list meet this, but for want of memory, by which the list is as it was.
+abbrev pub OnlyReading : List ℕ → List Record → Result Summary TableFault → List Record → Type 0
+OnlyReading file before r after = (q : Result Summary TableFault) (list : List Record) → Reading file before q list → (r ≡ Err NoMemory) ⊎ (((q ≡ Err NoMemory) × (list ≡ before)) ⊎ ((q ≡ r) × (list ≡ after)))

@@ -4,7 +4,7 @@ ghost use Rattle.std.specs.Prelude.{◌≡◌, List, ◌++◌, length, drop};
 ghost use Rattle.records.specs.declared.Record.{Record};
 ghost use Rattle.records.specs.declared.Size.{Size};
 ghost use Rattle.files.specs.Says.{Reads};
-ghost use Rattle.netfiles.specs.Reading.{TableRead, Storable, Reading, OneReading};
+ghost use Rattle.netfiles.specs.Reading.{TableRead, Storable, Reading, OneReading, FirstTold, OnlyTable, OnlyReading};
 
 use files::judging::Summary;
 use files::reading::Reader;
@@ -27,6 +27,8 @@ pub struct NetworkFile {
 pub fn read_table(heap: Global, file: &[u8], room: usize) -> Result<NetworkFile, TableFault>
     ensures reading { TableRead file.now room result }
     ensures one { OneReading file.now room }
+    ensures first { FirstTold file.now result }
+    ensures only { OnlyTable file.now room result }
 {
     let mut reader = Reader::new(file);
     let size = reader.size()?;
@@ -59,6 +61,8 @@ fn store(file: &[u8], list: &mut [Record])
 pub fn read_network(heap: Global, file: &[u8], list: &mut [Record]) -> Result<Summary, TableFault>
     ensures reading { Reading file.now list.old result list.new }
     ensures one { OneReading file.now (length list.old) }
+    ensures first { FirstTold file.now result }
+    ensures only { OnlyReading file.now list.old result list.new }
 {
     let read = read_table(heap, file, list.len())?;
     store(file, list);

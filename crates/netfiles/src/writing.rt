@@ -5,7 +5,7 @@ ghost use Rattle.std.specs.List.{flat_map, sum_by};
 ghost use Rattle.records.specs.Rendering.{file_text, finished, record_text, AllSmall};
 ghost use Rattle.records.specs.Writes.{Wrote};
 ghost use Rattle.tables.specs.Makes.{most};
-ghost use Rattle.netfiles.specs.Writing.{Writing};
+ghost use Rattle.netfiles.specs.Writing.{Writing, SizeTold, OnlyWriting};
 
 use networks::faults::{Buffer, StudyFault};
 use records::writing::Statement;
@@ -53,7 +53,9 @@ pub fn write_network(
     records: &[Record],
     file: &mut [u8],
 ) -> Result<usize, StudyFault>
-    ensures { Writing size records.now file.old result file.new }
+    ensures writing { Writing size records.now file.old result file.new }
+    ensures size { SizeTold size result }
+    ensures only { OnlyWriting size records.now file.old result file.new }
 {
     // making the table judges the records
     Table::new(heap, size, records)?;

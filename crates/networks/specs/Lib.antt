@@ -3,3 +3,4 @@ pub mod Cleared
 pub mod Faults
 pub mod Nets
 pub mod Rooms
+pub mod Secrecy

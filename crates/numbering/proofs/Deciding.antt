@@ -1,11 +1,12 @@
 -- What follows from numbers that are decided, and that those of the rounds are.
-use Rattle.std.proofs.Common.{◌≡◌, ℕ, zero, suc, ◌<◌, ◌≤◌, ◌⊎◌, true, false, Bool, List, length, slice_index, inl, inr, refl, ap, ◌∙◌, arith, nat_eq, nat_lt, ◌&&◌}
+use Rattle.std.proofs.Common.{◌≡◌, ℕ, zero, suc, ◌<◌, ◌≤◌, ◌⊎◌, true, false, Bool, List, length, slice_index, inl, inr, refl, ap, ◌∙◌, arith, nat_eq, nat_lt}
 use native.Mathlib.Decide.{ℕ_discrete, dec_lt}
 use Rattle.std.proofs.lemmas.Bool.{both_ways, and_from, and_parts, lt-ltb, ltb-true, eq-eqb, eqb-true, false_from_ne_true}
 use Rattle.numbering.specs.Systems.{System, Conditions, Way, most_items}
 use Rattle.numbering.specs.Numbers.{Sound, HeldSet, Held, Smallest, Equation, none, greatest, Numbered, AllNumbered, held_number}
 use Rattle.numbering.specs.Rounds.{Met, Done, Open, Finished}
 use Rattle.numbering.specs.Deciding.{Decided}
+use Rattle.numbering.specs.Outcomes.{held_items}
 
 -- one of the first n numbers of a list that is the least of them
 least_of : (f : ℕ → ℕ) (xs : List ℕ) (n : ℕ) → 0 < n → (k : ℕ) × (k < n) × ((l : ℕ) → l < n → f (slice_index xs k) ≤ f (slice_index xs l))
@@ -131,7 +132,7 @@ module _ (s : System) (ok : Conditions s) (f g : ℕ → ℕ) (r : ℕ) (fin : F
 module _ (s : System) (ok : Conditions s) (g : ℕ → ℕ) (r : ℕ) (d : Decided s g r) where
   -- the set of the items that were not numbered
   abbrev left : ℕ → Bool
-  left i = nat_lt i s.items && nat_eq (g i) held_number
+  left = held_items s g
 
   is_left : (i : ℕ) → i < s.items → g i ≡ held_number → left i ≡ true
   is_left i l e = and_from (nat_lt i s.items) (nat_eq (g i) held_number) (lt-ltb i s.items l) (eq-eqb (g i) held_number e)
@@ -142,7 +143,7 @@ module _ (s : System) (ok : Conditions s) (g : ℕ → ℕ) (r : ℕ) (d : Decid
   number_left : (i : ℕ) → left i ≡ true → g i ≡ held_number
   number_left i e = eqb-true (g i) held_number (and_parts (nat_lt i s.items) (nat_eq (g i) held_number) e).1
 
-  left_held : HeldSet s left
+  pub left_held : HeldSet s left
   left_held i e =
       let l = inside_left i e in
       let n = number_left i e in

@@ -4,6 +4,7 @@ pub mod Deciding
 pub mod Looking
 pub mod Outcome
 pub mod Rounding
+pub mod Secrecy
 pub mod Settling
 pub mod Stepping
 pub mod Walking

@@ -2,10 +2,10 @@
 
 #![tactic(auto)]
 
-ghost use Rattle.std.specs.Prelude.{◌≡◌, ℕ, Bool};
+ghost use Rattle.std.specs.Prelude.{◌≡◌, ◌≤◌, ℕ, Bool};
 ghost use Rattle.networks.specs.Allowed.{said};
 ghost use Rattle.networks.specs.Nets.{WayAt};
-ghost use Rattle.numbering.specs.Systems.{System, Conditions};
+ghost use Rattle.numbering.specs.Systems.{System, Conditions, no_label};
 
 mod numbers;
 mod rounds;
@@ -68,5 +68,6 @@ pub trait ReleaseSystem {
 
     /// What the item stands for.
     fn label(&self, item: u32) -> Label
-        ensures { (allowed : ℕ → Bool) → result ≡ (meaning self.now allowed).label item };
+        ensures meant { (allowed : ℕ → Bool) → result ≡ (meaning self.now allowed).label item }
+        ensures outside { (allowed : ℕ → Bool) → (meaning self.now allowed).items ≤ item → result ≡ no_label };
 }

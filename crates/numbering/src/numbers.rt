@@ -3,8 +3,9 @@
 ghost use Rattle.std.specs.Prelude.{◌≡◌, length, count_by, nat_eq};
 ghost use Rattle.networks.specs.Allowed.{said};
 ghost use Rattle.networks.specs.Cleared.{AllZero};
+ghost use Rattle.networks.specs.Secrecy.{Secret};
 ghost use Rattle.numbering.specs.Numbers.{held_number};
-ghost use Rattle.numbering.specs.Outcomes.{Outcome, Numbers};
+ghost use Rattle.numbering.specs.Outcomes.{Outcome, Numbers, Leaves};
 
 use crate::rounds::number_by_rounds;
 use crate::walks::number_by_walks;
@@ -51,6 +52,7 @@ pub fn number<S: ReleaseSystem>(
 ) -> Result<Numbering, StudyFault>
     ensures numbers { Numbers (S.meaning system.now (said allowed.now)) numbers.old (length work.old) result numbers.new }
     ensures cleared { AllZero work.new }
+    ensures secret { Secret (Leaves (S.meaning system.now (said allowed.now)) numbers.old) }
 {
     let guard = Cleared { words: work };
     let items = system.items() as usize;

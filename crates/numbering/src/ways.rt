@@ -1,8 +1,9 @@
 //! The ways of a need one by one.
 
-ghost use Rattle.std.specs.Prelude.{◌≡◌};
+ghost use Rattle.std.specs.Prelude.{◌≡◌, ◌<◌, ◌≤◌, ℕ, length, slice_index};
 ghost use Rattle.std.specs.Iterator.{YieldsFirst, item_count};
 ghost use Rattle.networks.specs.Allowed.{said};
+ghost use Rattle.networks.specs.Nets.{most_ways};
 
 use crate::ReleaseSystem;
 use std::marker::Model;
@@ -21,6 +22,7 @@ pub struct NeedWays<'a, S: ReleaseSystem> {
 impl<'a, S: ReleaseSystem> Model for NeedWays<'a, S> {
     ghost use Rattle.std.specs.Prelude.{ℕ, List, drop};
     ghost use Rattle.networks.specs.Allowed.{said};
+    ghost use Rattle.networks.specs.Nets.{most_ways};
 
     ghost Value = { List ℕ };
 
@@ -28,9 +30,11 @@ impl<'a, S: ReleaseSystem> Model for NeedWays<'a, S> {
 }
 
 impl<'a, S: ReleaseSystem> NeedWays<'a, S> {
-    /// All ways of the need at a slot of an item, in their order.
+    /// All ways of the need at a slot of an item, in their order: at most 8 of the system's items.
     pub fn new(system: &'a S, allowed: &'a [u8], item: u32, slot: u16) -> NeedWays<'a, S>
-        ensures { result ≡ (S.meaning system.now (said allowed.now)).ways item slot }
+        ensures ways { result ≡ (S.meaning system.now (said allowed.now)).ways item slot }
+        ensures few { length result ≤ most_ways }
+        ensures inside { (k : ℕ) → k < length result → slice_index result k < (S.meaning system.now (said allowed.now)).items }
     {
         NeedWays {
             system,

@@ -1,1 +1,2 @@
+mod OwnParts
 pub mod Texts

@@ -1,8 +1,10 @@
 -- Text written into bytes, piece after piece.
-use Rattle.std.proofs.Common.{◌≡◌, ℕ, ◌+◌, ◌-◌, ◌<◌, ◌≤◌, List, [], ◌∷◌, ◌++◌, length, get_or, take, drop, decimal, sym, refl, ap, ◌∙◌, arith}
+use Rattle.std.proofs.Common.{◌≡◌, ℕ, ◌+◌, ◌-◌, ◌<◌, ◌≤◌, List, [], ◌∷◌, ◌++◌, length, get_or, take, drop, decimal, Ok, Err, Result, sym, refl, ap, ◌∙◌, arith}
 use Rattle.std.proofs.lemmas.List.{append_assoc, length-append, length-take-le, append-nil, take_at, take-append-drop, take_more, drop_at, drop-drop}
-use Rattle.records.specs.Rendering.{numbers_text}
-use Rattle.records.specs.Writes.{Wrote}
+use Rattle.records.specs.declared.writing.WriteFault.{WriteFault}
+use Rattle.records.specs.declared.writing.WriteFault.TheVariants.{LargeNumber, NoRoom}
+use Rattle.records.specs.Rendering.{numbers_text, line_text, finished}
+use Rattle.records.specs.Writes.{Wrote, WritesLine}
 
 -- what was written, and what follows it
 pub wrote_front : (text : List ℕ) (at : ℕ) (old new : List ℕ) (end : ℕ) → Wrote text at old new end → (take end new ≡ take at old ++ text) × (drop end new ≡ drop end old)
@@ -40,3 +42,20 @@ text_take_more ns i h =
 -- a line with one number more
 pub line_more : (letter : ℕ) (ns : List ℕ) (i : ℕ) (line next : List ℕ) → i < length ns → line ≡ letter ∷ numbers_text (take i ns) → next ≡ line ++ (9 ∷ decimal (get_or ns i 0)) → next ≡ letter ∷ numbers_text (take (i + 1) ns)
 line_more letter ns i line next h e f = f ∙ ap (λ t. t ++ (9 ∷ decimal (get_or ns i 0))) e ∙ ap (λ t. letter ∷ t) (sym (text_take_more ns i h))
+
+pub wrote_one : (text : List ℕ) (at : ℕ) (old new bytes : List ℕ) (end stop : ℕ) → Wrote text at old new end → Wrote text at old bytes stop → (stop ≡ end) × (bytes ≡ new)
+wrote_one text at old new bytes end stop w v =
+    let e : stop ≡ end = v.ends ∙ sym w.ends in
+    (e, v.bytes ∙ ap (λ k. take at old ++ (text ++ drop k old)) e ∙ sym w.bytes)
+
+-- what writing a line answers is one, and so is what it leaves
+pub only_writes : (letter : ℕ) (ns : List ℕ) (at : ℕ) (old : List ℕ) (r : Result ℕ WriteFault) (new : List ℕ) → WritesLine letter ns at old r new → (q : Result ℕ WriteFault) (bytes : List ℕ) → WritesLine letter ns at old q bytes → (q ≡ r) × (bytes ≡ new)
+only_writes letter ns at old (Ok end) new w (Ok stop) bytes v = let o = wrote_one (finished (line_text letter ns)) at old new bytes end stop w.1 v.1 in (ap Ok o.0, o.1)
+only_writes letter ns at old (Ok end) new w (Err LargeNumber) bytes v = absurd (v.0 w.0)
+only_writes letter ns at old (Ok end) new w (Err NoRoom) bytes v = let f = w.1.fits in let e = w.1.ends in let l = v.1 in absurd (omega arith)
+only_writes letter ns at old (Err LargeNumber) new w (Ok stop) bytes v = absurd (w.0 v.0)
+only_writes letter ns at old (Err LargeNumber) new w (Err LargeNumber) bytes v = (refl, v.1 ∙ sym w.1)
+only_writes letter ns at old (Err LargeNumber) new w (Err NoRoom) bytes v = absurd (w.0 v.0)
+only_writes letter ns at old (Err NoRoom) new w (Ok stop) bytes v = let f = v.1.fits in let e = v.1.ends in let l = w.1 in absurd (omega arith)
+only_writes letter ns at old (Err NoRoom) new w (Err LargeNumber) bytes v = absurd (v.0 w.0)
+only_writes letter ns at old (Err NoRoom) new w (Err NoRoom) bytes v = (refl, v.2 ∙ sym w.2)

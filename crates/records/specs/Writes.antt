@@ -15,3 +15,7 @@ abbrev pub WritesLine : ℕ → List ℕ → ℕ → List ℕ → Result ℕ Wri
 WritesLine letter ns at old (Ok end) new = Small ns × Wrote (finished (line_text letter ns)) at old new end
 WritesLine letter ns at old (Err LargeNumber) new = (Small ns → ⊥) × (new ≡ old)
 WritesLine letter ns at old (Err NoRoom) new = Small ns × (length old < at + length (finished (line_text letter ns))) × (new ≡ old)
+
+-- No other answer and no other bytes meet this.
+abbrev pub OnlyWrites : ℕ → List ℕ → ℕ → List ℕ → Result ℕ WriteFault → List ℕ → Type 0
+OnlyWrites letter ns at old r new = (q : Result ℕ WriteFault) (bytes : List ℕ) → WritesLine letter ns at old q bytes → (q ≡ r) × (bytes ≡ new)

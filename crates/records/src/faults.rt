@@ -1,7 +1,7 @@
 //! Faults of a file's text, and how the faults of all layers are told.
 
 ghost use Rattle.std.specs.Prelude.{◌≡◌, Some};
-ghost use Rattle.records.specs.Faults.{parts_of, word_of, told};
+ghost use Rattle.records.specs.Faults.{parts_of, OwnParts, word_of, told};
 ghost use Rattle.records.specs.declared.faults.Parts.{Parts};
 
 use std::error::Error;
@@ -114,7 +114,11 @@ pub enum TextFault {
 impl Fault for TextFault {
     ghost parts = { parts_of };
 
-    fn parts(self) -> Parts {
+    #[tactic(auto, using(crate::proofs::OwnParts::own_parts))]
+    fn parts(self) -> Parts
+        ensures parts { result ≡ parts_of self }
+        ensures own { OwnParts self }
+    {
         let (number, line, field) = match self {
             TextFault::NoSize => (10, 1, 1),
             TextFault::UnknownLetter { line } => (11, line, 1),

@@ -3,7 +3,7 @@
 ghost use Rattle.std.specs.Prelude.{◌≡◌, ℕ, ◌+◌, ◌<◌, ◌≤◌, [], ◌∷◌, ◌++◌, length, decimal, Decides, List};
 ghost use Rattle.arrayvec.specs.ArrayVec.{array_vec_len};
 ghost use Rattle.records.specs.Rendering.{finished, letter_n, line_text, numbers_text, size_numbers, letter_of, numbers_of, Small};
-ghost use Rattle.records.specs.Writes.{WritesLine};
+ghost use Rattle.records.specs.Writes.{WritesLine, OnlyWrites};
 
 use crate::{Record, Size};
 use arrayvec::ArrayVec;
@@ -85,8 +85,10 @@ pub trait Statement: Copy {
 
     /// Writes its line into `out` from `at` on, and answers where the line ends. A refusal writes nothing.
     // `out` and `at` are two parameters, since the promise speaks of all the lent bytes
+    #[tactic(auto, using(crate::proofs::Texts::only_writes))]
     fn write(self, out: &mut [u8], at: usize) -> Result<usize, WriteFault>
-        ensures { WritesLine (letter self) (numbers self) at out.old result out.new }
+        ensures writes { WritesLine (letter self) (numbers self) at out.old result out.new }
+        ensures only { OnlyWrites (letter self) (numbers self) at out.old result out.new }
     {
         let numbers = self.numbers();
         if !all_small(numbers.as_slice()) {

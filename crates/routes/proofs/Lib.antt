@@ -3,3 +3,4 @@ pub mod Numbers
 pub mod Outcomes
 pub mod Pigeonhole
 pub mod Walks
+pub mod Secrecy

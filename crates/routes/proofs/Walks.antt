@@ -1,7 +1,7 @@
 -- From a held pair a packet can circle or run dry.
 use Rattle.std.proofs.Common.{◌≡◌, ℕ, zero, suc, ◌+◌, ◌-◌, ◌<◌, ◌≤◌, ◌⊎◌, true, Bool, List, [], ◌∷◌, length, max, get_or, refl, sym, ap, subst, inl, inr, arith}
 use Rattle.std.proofs.Math.Decide.{ℕ_discrete}
-use Rattle.networks.specs.Allowed.{position, said}
+use Rattle.networks.specs.Allowed.{Allowed, position, said}
 use Rattle.networks.specs.Nets.{Net, Inside, Conditions}
 use Rattle.numbering.specs.Systems as systems
 use Rattle.numbering.specs.Numbers.{HeldSet}
@@ -14,6 +14,21 @@ use Rattle.routes.proofs.Pigeonhole.{pigeonhole}
 longer : {n : Net} {d c k h e : ℕ} → Path n d c k h → Path n d h 1 e → Path n d c (suc k) e
 longer stays q = q
 longer (moves a away w p) q = moves a away w (longer p q)
+
+-- a packet that can move on stands in an allowed pair
+path_allowed : {n : Net} {d c k e : ℕ} → Path n d c (suc k) e → Allowed n c d
+path_allowed (moves a away w p) = a
+
+-- and so does one that can circle or run dry
+pub endless_allowed : {n : Net} {c d : ℕ} → Endless n c d → Allowed n c d
+endless_allowed (circles stays q) = path_allowed q
+endless_allowed (circles (moves a away w p) q) = a
+endless_allowed (dry stays x) = x.allowed
+endless_allowed (dry (moves a away w p) x) = a
+
+pub no_moves : {n : Net} {d c k e : ℕ} → (Allowed n c d → ⊥) → Path n d c k e → k ≡ 0
+no_moves out stays = refl
+no_moves out (moves a away w p) = absurd (out a)
 
 -- a walk of m moves, seen as the channels that it comes to
 module _ {n : Net} {d : ℕ} (f : ℕ → ℕ) (m : ℕ) (step : (k : ℕ) → k < m → Path n d (f k) 1 (f (suc k))) where

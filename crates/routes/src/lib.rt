@@ -5,7 +5,8 @@
 ghost use Rattle.std.specs.Prelude.{◌≡◌, ◌<◌, ◌≤◌, ◌/◌, ◌%◌, length, MatchOption};
 ghost use Rattle.networks.specs.Allowed.{pairs};
 ghost use Rattle.networks.specs.Cleared.{AllZero};
-ghost use Rattle.routes.specs.Outcomes.{RoutesGive};
+ghost use Rattle.networks.specs.Secrecy.{Secret};
+ghost use Rattle.routes.specs.Outcomes.{RoutesGive, Leaves};
 ghost use Rattle.routes.specs.Routing.{route};
 ghost use Rattle.routes.specs.Limits.{route_conditions};
 
@@ -102,6 +103,7 @@ pub fn routes<N: Network>(
 ) -> Result<Routes, StudyFault>
     ensures routes { RoutesGive (N.meaning net.now) allowed.old numbers.old (length work.old) result allowed.new numbers.new }
     ensures cleared { AllZero work.new }
+    ensures secret { Secret (Leaves (N.meaning net.now) allowed.old numbers.old) }
 {
     let guard = Cleared { words: work };
     let pairs = pair_count(net);

@@ -1,9 +1,11 @@
 -- Every route of a Spidergon arrives.
 use Rattle.std.proofs.Common.{◌≡◌, ℕ, zero, suc, ◌+◌, ◌*◌, ◌<◌, ◌≤◌, true, false, eqb, ◌⊎◌, List, [], ◌∷◌, length, get_or, sym, refl, ◌∙◌, subst, inl, inr, ⊎_elim, mod-lt, arith}
 use Rattle.std.proofs.lemmas.Bool.{le-leb, lt-leb, ne_eqb, cases_lt, cases_eq}
-use Rattle.spidergon.specs.Arrival.{HomeWithin, arrived, moves, Arrives}
+use Rattle.networks.specs.Nets.{Way}
+use Rattle.spidergon.specs.Arrival.{HomeWithin, arrived, moves, Route, stays, goes, Arrives}
 use Rattle.spidergon.specs.Limits.{leads_below}
 use Rattle.spidergon.specs.Rings.{port, leads, relative, step, within, spidergon}
+use Rattle.spidergon.proofs.Arriving.{short, more}
 use Rattle.spidergon.proofs.Distances.{at_place, next, before, across}
 
 -- where port k of switch h leads
@@ -116,6 +118,27 @@ within_size (suc m) c d p =
     (λ a. forward (suc m) (suc m) c d p a a)
     (cases_lt (suc m) (far (suc m) c d))
 
--- the law: an entry is a pair that there is
-pub arrives : (n : ℕ) → 1 ≤ n → Arrives n
-arrives n size c d e = within_size n c d (record { size = size; channel = grind arith; place = grind arith })
+-- an entry is a pair that there is
+pub arrives : (n m : ℕ) → 1 ≤ n → n ≤ m → Arrives n m
+arrives n m size l c d e = more (spidergon n) (within_size n c d (record { size = size; channel = grind arith; place = grind arith })) m l
+
+-- a route along the ring, as long as the place lies ahead
+along : (r n c d : ℕ) → Pair n c d → far n c d ≡ r → r ≤ n → (e : ℕ) × Route (spidergon n) d c r e
+along zero n c d p is near = (c, stays)
+along (suc r) n c d p is near =
+    let some : 0 < far n c d = omega arith in
+    let e = port_leads n (leads n c) 1 (omega arith) in
+    let f : far n (4 * leads n c + 1) d + 1 ≡ far n c d = rw e (next n (leads n c) d (switch p) p.place some) in
+    let on = along r n (4 * leads n c + 1) d (past 1 p (omega arith)) (omega arith) (omega arith) in
+    let apart : eqb (leads n c) d ≡ false = at_place n (leads n c) d (switch p) p.place ∙ ne_eqb _ _ (λ z. omega arith) in
+    let ways : (spidergon n).ways c d ≡ (4 * leads n c + 1) ∷ [] = rw (there p, apart, le-leb (far n c d) n (omega arith)) refl in
+    let w : Way (spidergon n) c d (4 * leads n c + 1) = (0, subst (λ (ws : List ℕ). 0 < length ws) (sym ways) (omega arith), grind arith) in
+    (on.0, goes (rw (there p, apart) refl) w on.1)
+
+-- from the local channel of switch 0 it is just that long to the place of switch n
+pub no_fewer : (n m : ℕ) → 1 ≤ n → Arrives n m → n ≤ m
+no_fewer n m size all =
+    let p : Pair n 0 n = record { size = size; channel = omega arith; place = omega arith } in
+    let ahead : far n 0 n ≡ n = grind arith in
+    let r = along n n 0 n p ahead (omega arith) in
+    short (spidergon n) (all 0 n (grind arith)) r.0 n r.1

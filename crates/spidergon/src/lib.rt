@@ -23,8 +23,8 @@ const MAX_SIZE: u16 = 64;
 
 impl Spidergon {
     /// The Spidergon of 4 × `size` switches, for a size from 1 to 64. Every route through it is home within `size` moves past
-    /// its entry.
-    #[tactic(auto, using(crate::proofs::Routes::arrives))]
+    /// its entry, and some route takes so many.
+    #[tactic(auto, using(crate::proofs::Routes::arrives, crate::proofs::Routes::no_fewer, crate::proofs::Arriving::by_routes))]
     pub fn new(size: u16) -> Result<Spidergon, StudyFault>
         ensures { Builds size result }
     {

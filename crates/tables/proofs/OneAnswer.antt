@@ -1,5 +1,5 @@
 -- A size and records make a table or have one fault, and never both.
-use Rattle.std.proofs.Common.{◌≡◌, ℕ, ◌+◌, ◌<◌, ◌&&◌, eqb, ◌⊎◌, List, [], ◌∷◌, ◌++◌, length, sym, refl, ap, ◌∙◌, subst, inl, inr, arith}
+use Rattle.std.proofs.Common.{◌≡◌, ℕ, ◌+◌, ◌<◌, ◌&&◌, eqb, ◌⊎◌, List, [], ◌∷◌, ◌++◌, length, Ok, Err, Result, sym, refl, ap, ◌∙◌, subst, inl, inr, arith}
 use Rattle.std.proofs.lemmas.List.{length-append}
 use Rattle.std.proofs.lemmas.Bool.{cases_order, eq-eqb, and_from, cond-true}
 use Rattle.std.proofs.lemmas.Grind.{flat_map-append}
@@ -8,10 +8,12 @@ use Rattle.records.specs.declared.Record.{Record}
 use Rattle.records.specs.declared.Record.TheVariants.{Entry, Home, Way}
 use Rattle.records.specs.declared.Size.{Size}
 use Rattle.networks.specs.declared.faults.TableFault.{TableFault}
-use Rattle.networks.specs.declared.faults.TableFault.TheVariants.{OutOfRange}
+use Rattle.networks.specs.declared.faults.TableFault.TheVariants.{OutOfRange, NoMemory}
 use Rattle.networks.specs.Nets.{Net}
+use Rattle.tables.specs.declared.table.Table.{Table}
 use Rattle.tables.specs.Drawn.{drawn, way_by}
-use Rattle.tables.specs.Makes.{SizeFits, SizeMisfit, channels, places, Within, Full, FirstOutside, Misfit, outside, ninth, Takes, Fit, Acceptable, RecordsFault, size, first, many, OneFault}
+use Rattle.tables.specs.Makes.{SizeFits, SizeMisfit, channels, places, Within, Full, FirstOutside, Misfit, outside, ninth, Takes, Fit, Acceptable, RecordsFault, size, first, many, OneFault, Begins, Adds, Makes, SameMade, OneMaking}
+use Rattle.tables.proofs.ByRecord.{fit_none}
 
 -- two ways to part a list at an element
 pub data Parted {X : Type 0} (xs ys : List X) (x y : X) (xr yr : List X) : Type 0 where
@@ -114,3 +116,33 @@ never_both s rs f a (many fits h l e) = let few = a.few in omega arith
 
 pub one_fault : (s : Size) (rs : List Record) → OneFault s rs
 one_fault s rs = record { never_both = never_both s rs; one = one_records_fault s rs }
+
+module _ (s : Size) (rs : List Record) where
+  size_told : (f : TableFault) → SizeMisfit s f → (r : Result Table TableFault) → Makes s rs r → r ≡ Err f
+  size_told f x (Ok t) h = absurd (size_or_misfit s f h.0.size x)
+  size_told f x (Err g) (inl y) = ap Err (one_records_fault s rs g f y (size x))
+  size_told f x (Err g) (inr w) = absurd (size_or_misfit s f w.0 x)
+
+  one_made : (r q : Result Table TableFault) → Makes s rs r → Makes s rs q → (r ≡ Err NoMemory) ⊎ ((q ≡ Err NoMemory) ⊎ SameMade r q)
+  one_made (Ok t) (Ok u) h k = inr (inr (h.1 ∙ sym k.1))
+  one_made (Ok t) (Err g) h (inl y) = absurd (never_both s rs g h.0 y)
+  one_made (Ok t) (Err g) h (inr w) = inr (inl (ap Err w.1))
+  one_made (Err f) (Ok u) (inl x) k = absurd (never_both s rs f k.0 x)
+  one_made (Err f) (Ok u) (inr w) k = inl (ap Err w.1)
+  one_made (Err f) (Err g) (inl x) (inl y) = inr (inr (one_records_fault s rs f g x y))
+  one_made (Err f) (Err g) (inl x) (inr w) = inr (inl (ap Err w.1))
+  one_made (Err f) (Err g) (inr w) k = inl (ap Err w.1)
+
+  blank_is_none : (r : Result Table TableFault) → Begins s r → Makes s [] r
+  blank_is_none (Ok t) h = (record { size = h.0; fit = fit_none s; few = omega arith }, h.1)
+  blank_is_none (Err f) (inl x) = inl (size x)
+  blank_is_none (Err f) (inr w) = inr w
+
+one_added : (n : Net) (line : ℕ) (r : Record) (a b : Result (Unit {0}) TableFault) (m k : Net) → Adds n line r a m → Adds n line r b k → (a ≡ b) × (m ≡ k)
+one_added n line r (Ok a) (Ok b) m k h j = (refl, h.1 ∙ sym j.1)
+one_added n line r (Ok a) (Err g) m k h j = absurd (takes_or_misfit n line r g h.0 j.0)
+one_added n line r (Err f) (Ok b) m k h j = absurd (takes_or_misfit n line r f j.0 h.0)
+one_added n line r (Err f) (Err g) m k h j = (ap Err (misfit_one n line r f g h.0 j.0), h.1 ∙ sym j.1)
+
+pub one_making : (s : Size) (rs : List Record) → OneMaking s rs
+one_making s rs = record { size = size_told s rs; one = one_made s rs; blank = blank_is_none s rs; adds = one_added }

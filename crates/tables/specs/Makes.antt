@@ -100,3 +100,18 @@ Adds n line r (Err f) m = Misfit n line r f × (m ≡ n)
 abbrev pub Makes : Size → List Record → Result Table TableFault → Type 0
 Makes s rs (Ok t) = Acceptable s rs × (meaning_of t ≡ drawn s rs)
 Makes s rs (Err f) = RecordsFault s rs f ⊎ (SizeFits s × (f ≡ NoMemory))
+
+-- Two answers tell the same: tables of one network, or one fault.
+abbrev pub SameMade : Result Table TableFault → Result Table TableFault → Type 0
+SameMade (Ok t) (Ok u) = meaning_of t ≡ meaning_of u
+SameMade (Ok t) (Err g) = ⊥
+SameMade (Err f) (Ok u) = ⊥
+SameMade (Err f) (Err g) = f ≡ g
+
+-- Making a table tells one thing, but for want of memory, and a fault of the size whatever memory there is. A table without records is
+-- the table of none. Adding a record tells one thing and leaves one network.
+pub record OneMaking (s : Size) (rs : List Record) : Type 0 where
+  pub size : (f : TableFault) → SizeMisfit s f → (r : Result Table TableFault) → Makes s rs r → r ≡ Err f
+  pub one : (r q : Result Table TableFault) → Makes s rs r → Makes s rs q → (r ≡ Err NoMemory) ⊎ ((q ≡ Err NoMemory) ⊎ SameMade r q)
+  pub blank : (r : Result Table TableFault) → Begins s r → Makes s [] r
+  pub adds : (n : Net) (line : ℕ) (r : Record) (a b : Result (Unit {0}) TableFault) (m k : Net) → Adds n line r a m → Adds n line r b k → (a ≡ b) × (m ≡ k)

@@ -3,7 +3,7 @@
 ghost use Rattle.std.specs.Prelude.{◌≡◌, ◌+◌, ◌*◌, ◌<◌, ◌≤◌, ◌⊎◌, vec_len, MatchResult};
 ghost use Rattle.networks.specs.declared.faults.TableFault.TheVariants.{OutOfRange, TooManyRecords};
 ghost use Rattle.tables.specs.Drawn.{pair_of};
-ghost use Rattle.tables.specs.Makes.{limit, SizeFits, SizeMisfit, Begins, Adds, Makes, OneFault};
+ghost use Rattle.tables.specs.Makes.{limit, SizeFits, SizeMisfit, Begins, Adds, Makes, OneFault, OneMaking};
 ghost use Rattle.tables.specs.Meaning.{meaning_of};
 
 use crate::cell::Cell;
@@ -126,10 +126,11 @@ impl Table {
     }
 
     /// The table of a size and records. The first record stands on line 2.
-    #[tactic(auto, using(crate::proofs::OneAnswer::one_fault))]
+    #[tactic(auto, using(crate::proofs::OneAnswer::one_fault, crate::proofs::OneAnswer::one_making))]
     pub fn new(heap: Global, size: Size, records: &[Record]) -> Result<Table, TableFault>
         ensures makes { Makes size records.now result }
         ensures one { OneFault size records.now }
+        ensures making { OneMaking size records.now }
     {
         let mut table = Table::blank(heap, size)?;
         for (line, record) in (FIRST_LINE..).zip(records) {

@@ -1,3 +1,4 @@
 pub mod Positions
 pub mod Queueing
+pub mod Secrecy
 pub mod Tables

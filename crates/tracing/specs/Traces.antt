@@ -1,6 +1,7 @@
 -- What tracing a network gives.
 use Rattle.std.specs.Prelude.{◌≡◌, ℕ, ◌<◌, ◌≤◌, ◌⊎◌, List, [], ◌∷◌, length, take, Some, None, Ok, Err, count_by, Result, nat_eq, slice_index}
 use Rattle.networks.specs.Allowed.{Allowed, pairs, position}
+use Rattle.networks.specs.Cleared.{AllZero}
 use Rattle.networks.specs.Nets.{Net}
 use Rattle.networks.specs.Rooms.{Room, first_short}
 use Rattle.networks.specs.declared.faults.Buffer.{Buffer}
@@ -26,3 +27,16 @@ rooms n table work = record { buffer = buffer.Allowed; needed = pairs n; given =
 abbrev pub Traces : Net → List ℕ → ℕ → Result ℕ StudyFault → List ℕ → Type 0
 Traces n before work (Ok count) after = (first_short (rooms n before work) ≡ None) × Traced n before after count
 Traces n before work (Err f) after = (b : Buffer) × (first_short (rooms n before work) ≡ Some b) × (f ≡ Short b) × (after ≡ before)
+
+-- What a call of tracing leaves: its answer, and what stands in the table and in the work area.
+pub record Left : Type 0 where
+  pub answer : Result ℕ StudyFault
+  pub table : List ℕ
+  pub work : List ℕ
+
+-- Tracing may leave this of a table and a work area with these bytes and words. Lent buffers keep their lengths.
+pub record Leaves (n : Net) (table work : List ℕ) (x : Left) : Type 0 where
+  pub traces : Traces n table (length work) x.answer x.table
+  pub cleared : AllZero x.work
+  pub bytes : length x.table ≡ length table
+  pub words : length x.work ≡ length work

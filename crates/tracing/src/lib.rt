@@ -5,9 +5,10 @@
 ghost use Rattle.std.specs.Prelude.{◌≡◌, ◌/◌, ◌%◌, ◌^◌, ◌<◌, ◌≤◌, true, false, length, slice_set, MatchOption};
 ghost use Rattle.networks.specs.Allowed.{Allowed, pairs};
 ghost use Rattle.networks.specs.Cleared.{AllZero};
+ghost use Rattle.networks.specs.Secrecy.{Secret};
 ghost use Rattle.tracing.specs.Queue.{Queued};
 ghost use Rattle.tracing.specs.Entries.{NoEntry};
-ghost use Rattle.tracing.specs.Traces.{Traced, Traces};
+ghost use Rattle.tracing.specs.Traces.{Traced, Traces, Leaves};
 
 use networks::Network;
 use networks::faults::{Buffer, StudyFault};
@@ -163,6 +164,7 @@ fn mark_allowed<N: Network>(net: &N, table: &mut [u8], queue: &mut [u32]) -> usi
 pub fn trace<N: Network>(net: &N, allowed: &mut [u8], work: &mut [u32]) -> Result<usize, StudyFault>
     ensures traces { Traces (N.meaning net.now) allowed.old (length work.old) result allowed.new }
     ensures cleared { AllZero work.new }
+    ensures secret { Secret (Leaves (N.meaning net.now) allowed.old) }
 {
     let guard = Cleared { words: work };
     let pairs = pair_count(net);

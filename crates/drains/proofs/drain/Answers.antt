@@ -1,6 +1,7 @@
 use Rattle.std.proofs.Common.{rules, refl, length}
 use Rattle.checks.proofs.Verdicts.{items_suffice, rooms_suffice}
 use Rattle.drains.proofs.Draining.{drained, filled_blocked, filled_free, is_free, lowering, none_greater}
+use Rattle.drains.proofs.Secrecy.{drain_secret}
 use Rattle.drains.proofs.Standing.{load_allowed, not_allowed}
 use Rattle.drains.proofs.drain.Goals as goal
 
@@ -44,3 +45,30 @@ returns-clause-drains g c =
       allowed,
       drained (g.N.Network.conditions c.args.net.now) low allowed c.empty.ensures.called c.empty.ensures.emptied,
     )
+
+pub returns-in_err-check-clause-secret : goal.returns-in_err-check-clause-secret
+returns-in_err-check-clause-secret g c = drain_secret (g.N.Network.conditions c.args.net.now) c.args.allowed.now c.args.numbers.now c.args.load.now
+
+pub returns-in_err-check-2-clause-secret : goal.returns-in_err-check-2-clause-secret
+returns-in_err-check-2-clause-secret g c = drain_secret (g.N.Network.conditions c.args.net.now) c.args.allowed.now c.args.numbers.now c.args.load.now
+
+pub returns-in_err-check-3-clause-secret : goal.returns-in_err-check-3-clause-secret
+returns-in_err-check-3-clause-secret g c = drain_secret (g.N.Network.conditions c.args.net.now) c.args.allowed.now c.args.numbers.now c.args.load.now
+
+pub returns-in_err-check-4-clause-secret : goal.returns-in_err-check-4-clause-secret
+returns-in_err-check-4-clause-secret g c = drain_secret (g.N.Network.conditions c.args.net.now) c.args.allowed.now c.args.numbers.now c.args.load.now
+
+pub returns-in_err-trace-clause-secret : goal.returns-in_err-trace-clause-secret
+returns-in_err-trace-clause-secret g c = drain_secret (g.N.Network.conditions c.args.net.now) c.args.allowed.now c.args.numbers.now c.args.load.now
+
+pub returns-in_err-numbering-clause-secret : goal.returns-in_err-numbering-clause-secret
+returns-in_err-numbering-clause-secret g c = drain_secret (g.N.Network.conditions c.args.net.now) c.args.allowed.now c.args.numbers.now c.args.load.now
+
+pub returns-then-numbering-gt0-clause-secret : goal.returns-then-numbering-gt0-clause-secret
+returns-then-numbering-gt0-clause-secret g c = drain_secret (g.N.Network.conditions c.args.net.now) c.args.allowed.now c.args.numbers.now c.args.load.now
+
+pub returns-then-not-is_allowed_load-clause-secret : goal.returns-then-not-is_allowed_load-clause-secret
+returns-then-not-is_allowed_load-clause-secret g c = drain_secret (g.N.Network.conditions c.args.net.now) c.args.allowed.now c.args.numbers.now c.args.load.now
+
+pub returns-clause-secret : goal.returns-clause-secret
+returns-clause-secret g c = drain_secret (g.N.Network.conditions c.args.net.now) c.args.allowed.now c.args.numbers.now c.args.load.now

@@ -2,6 +2,7 @@ use Rattle.std.proofs.Common.{inl, arith}
 use Rattle.std.proofs.lemmas.Result.{err_from_is_err_and}
 use Rattle.files.proofs.LineByLine.{fewer_records}
 use Rattle.netfiles.proofs.ByLine.{size_refused, blank_refused, begins, text_refused, record_refused, goes_on, accepted, too_many}
+use Rattle.netfiles.proofs.OnlyReadings.{table_first, only_table}
 use Rattle.netfiles.proofs.reading.read_table.Goals as goal
 
 pub returns-in_err-size-clause-reading : goal.returns-in_err-size-clause-reading
@@ -46,3 +47,39 @@ returns-in_err-check_count-clause-reading c =
 
 pub returns-clause-reading : goal.returns-clause-reading
 returns-clause-reading c = accepted c.args.file.now c.args.room _ _ _ _ _ _ _ c.loop-record.invariant c.in_default.ensures.steps.1 c.in_ok-check_count.ensures
+
+pub returns-in_err-size-clause-first : goal.returns-in_err-size-clause-first
+returns-in_err-size-clause-first c = table_first c.args.file.now c.args.room _ (returns-in_err-size-clause-reading c)
+
+pub returns-in_err-size-clause-only : goal.returns-in_err-size-clause-only
+returns-in_err-size-clause-only c = only_table c.args.file.now c.args.room _ (returns-in_err-size-clause-reading c)
+
+pub returns-in_err-table-clause-first : goal.returns-in_err-table-clause-first
+returns-in_err-table-clause-first c = table_first c.args.file.now c.args.room _ (returns-in_err-table-clause-reading c)
+
+pub returns-in_err-table-clause-only : goal.returns-in_err-table-clause-only
+returns-in_err-table-clause-only c = only_table c.args.file.now c.args.room _ (returns-in_err-table-clause-reading c)
+
+pub returns-in_err-record-clause-first : goal.returns-in_err-record-clause-first
+returns-in_err-record-clause-first c = table_first c.args.file.now c.args.room _ (returns-in_err-record-clause-reading c)
+
+pub returns-in_err-record-clause-only : goal.returns-in_err-record-clause-only
+returns-in_err-record-clause-only c = only_table c.args.file.now c.args.room _ (returns-in_err-record-clause-reading c)
+
+pub returns-in_err-add-clause-first : goal.returns-in_err-add-clause-first
+returns-in_err-add-clause-first c = table_first c.args.file.now c.args.room _ (returns-in_err-add-clause-reading c)
+
+pub returns-in_err-add-clause-only : goal.returns-in_err-add-clause-only
+returns-in_err-add-clause-only c = only_table c.args.file.now c.args.room _ (returns-in_err-add-clause-reading c)
+
+pub returns-in_err-check_count-clause-first : goal.returns-in_err-check_count-clause-first
+returns-in_err-check_count-clause-first c = table_first c.args.file.now c.args.room _ (returns-in_err-check_count-clause-reading c)
+
+pub returns-in_err-check_count-clause-only : goal.returns-in_err-check_count-clause-only
+returns-in_err-check_count-clause-only c = only_table c.args.file.now c.args.room _ (returns-in_err-check_count-clause-reading c)
+
+pub returns-clause-first : goal.returns-clause-first
+returns-clause-first c = table_first c.args.file.now c.args.room _ (returns-clause-reading c)
+
+pub returns-clause-only : goal.returns-clause-only
+returns-clause-only c = only_table c.args.file.now c.args.room _ (returns-clause-reading c)
