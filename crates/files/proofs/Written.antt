@@ -16,7 +16,7 @@ same_line : (bs ds : List ℕ) (f g : Bool) → bs ≡ ds → f ≡ g → ◌≡
 same_line bs ds f g e h = cc
 
 module _ (l : RawLine) (letter : ℕ) (ns : List ℕ) (left : List (List ℕ)) (e : fields_of l.0 ≡ (letter ∷ []) ∷ left) (h : HasNumbers l ns) where
-  written : (code : ℕ) (ms : List ℕ) → letter ≡ code → ns ≡ ms → (l ≡ (line_text code ms, true)) × Small ms
+  pub written : (code : ℕ) (ms : List ℕ) → letter ≡ code → ns ≡ ms → (l ≡ (line_text code ms, true)) × Small ms
   written code ms is same =
       let b : behind l ≡ left = ap (drop 1) e in
       let f = h.fields in

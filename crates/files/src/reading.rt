@@ -1,6 +1,6 @@
 //! Reading a network file: its size, then one record at a time.
 
-ghost use Rattle.std.specs.Prelude.{◌≡◌, ◌+◌, length, drop, MatchResult};
+ghost use Rattle.std.specs.Prelude.{◌≡◌, ◌+◌, ◌^◌, ◌<◌, length, drop, MatchResult};
 ghost use Rattle.std.specs.Iterator.{item_count};
 ghost use Rattle.lines.specs.Pieces.{raw, lines_of};
 ghost use Rattle.files.specs.ReaderView.{ReaderView};
@@ -98,8 +98,10 @@ impl<'a> Reader<'a> {
     }
 
     /// The number of the line that was read last.
+    #[tactic(auto, using(lines::proofs::Laws::few_lines))]
     pub fn line(&self) -> usize
-        ensures { result ≡ self.now.passed }
+        ensures line { result ≡ self.now.passed }
+        ensures few { self.now.passed + length self.now.left < 2 ^ 63 }
     {
         self.lines.passed()
     }

@@ -1,6 +1,7 @@
 -- The lines of a file are the only ones that make it up, and the fields of a line.
-use Rattle.std.proofs.Common.{◌≡◌, ◌==◌, cond, Option, Some, None, ◌+◌, ℕ, ◌<◌, ◌≤◌, Bool, true, false, eqb, ◌⊎◌, List, [], ◌∷◌, ◌++◌, length, sym, refl, ap, ◌∙◌, inl, inr, arith}
-use Rattle.std.proofs.lemmas.List.{append-nil}
+use Rattle.std.proofs.Common.{◌≡◌, ◌==◌, cond, Option, Some, None, ◌+◌, ℕ, ◌<◌, ◌≤◌, Bool, true, false, eqb, ◌⊎◌, List, [], ◌∷◌, ◌++◌, length, take, get_or, ◌≢◌, length-take-le, sym, refl, ap, ◌∙◌, inl, inr, arith}
+use Rattle.std.proofs.lemmas.List.{append-nil, get_or-take}
+use Rattle.std.proofs.lemmas.List.Elements.{recursion_from_All, All-from_get_or}
 use Rattle.std.proofs.lemmas.Bool.{eqb-true, eqb-false, ne_eqb}
 use Rattle.lines.specs.Pieces.{RawLine, on_line, lines_of, on_field, fields_of, fields_left, most_left, Lacks, ending, file_of, Whole, Lined, line_of, Apart, Fielded}
 
@@ -145,3 +146,12 @@ apart_fields (x ∷ xs) = apart_more x xs (eqb x 9) refl (apart_fields xs)
 
 pub fielded : (line : List ℕ) → Fielded line
 fielded line = record { some = some_fields line; joined = line_back line; apart = apart_fields line; only = λ fs s a e. sym (fields_back fs s a) ∙ ap fields_of e }
+
+-- a list and a front of it lack a byte that stands at none of their positions
+pub lacks_at_all : (stop n : ℕ) (xs : List ℕ) → length xs ≤ n → ((k : ℕ) → k < n → get_or xs k 0 ≢ stop) → Lacks stop xs
+lacks_at_all stop n xs full h = recursion_from_All (λ y. y ≢ stop) xs (All-from_get_or (λ y. y ≢ stop) xs 0 (λ i l. h i (omega arith)))
+
+pub lacks_in_front : (stop n : ℕ) (xs : List ℕ) → n ≤ length xs → ((k : ℕ) → k < n → get_or xs k 0 ≢ stop) → Lacks stop (take n xs)
+lacks_in_front stop n xs fits h =
+    let len : length (take n xs) ≡ n = length-take-le n xs fits in
+    lacks_at_all stop n (take n xs) (omega arith) (λ k l e. h k l (sym (get_or-take n xs k 0 l) ∙ e))

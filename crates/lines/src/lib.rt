@@ -73,10 +73,13 @@ fn split_at_byte<'a>(bytes: &'a [u8], stop: u8) -> (&'a [u8], Option<&'a [u8]>)
     ensures before { Lacks stop result.0.now }
     ensures parts { MatchOption result.1 (bytes.now ≡ result.0.now) (λ after. bytes.now ≡ result.0.now ++ (stop ∷ after.now)) }
 {
-    match bytes.iter().position(|byte| *byte == stop) {
-        Some(at) => (&bytes[..at], Some(&bytes[at + 1..])),
-        None => (bytes, None),
+    // no `position`, by which the lines of a file take a quarter more time
+    for (at, byte) in bytes.iter().enumerate() {
+        if *byte == stop {
+            return (&bytes[..at], Some(&bytes[at + 1..]));
+        }
     }
+    (bytes, None)
 }
 
 impl<'a> Lines<'a> {
@@ -170,15 +173,18 @@ impl<'a> Iterator for Fields<'a> {
 pub fn read_number(field: &[u8]) -> Option<u16>
     ensures cases { MatchOption result (Spelled field.now → ⊥) (λ n. Spelled field.now × Spells field.now n) }
 {
-    if field.is_empty() || field.len() > MAX_DIGITS || matches!(field, [b'0', _, ..]) {
+    if field.is_empty() || field.len() > MAX_DIGITS {
+        return None;
+    }
+    if field[0] == b'0' && field.len() > 1 {
         return None;
     }
     let mut number = 0;
     for byte in field {
-        if !byte.is_ascii_digit() {
+        if *byte < b'0' || *byte > b'9' {
             return None;
         }
-        number = 10 * number + u16::from(byte - b'0');
+        number = 10 * number + u16::from(*byte - b'0');
     }
     Some(number)
 }

@@ -2,7 +2,7 @@
 
 #![tactic(auto)]
 
-ghost use Rattle.std.specs.Prelude.{◌≡◌, ℕ, List, ◌+◌, take, IfOk, IfSome, string_bytes};
+ghost use Rattle.std.specs.Prelude.{◌≡◌, ℕ, List, ◌+◌, ◌≤◌, length, take, IfOk, IfSome, string_bytes};
 ghost use Rattle.answers.specs.Judgings.{Refereed};
 ghost use Rattle.answers.specs.Prints.{most_bytes, Answered};
 
@@ -39,48 +39,67 @@ The exit status is 0 for all these answers, and 1 where the system fails.
 ";
 
 // How many bytes are read at most: one more than the limit tells an input that is too long.
-const MAX_READ: u64 = LIMIT as u64 + 1;
+const MAX_READ: usize = LIMIT + 1;
 
-// Reads the input to its end, or so many bytes.
-fn read_input<R: Read>(heap: Global, input: &mut R) -> io::Result<Vec<u8>>
-    ensures { IfOk result (λ v. IfSome (R.remaining input.old) (λ bytes. v.items ≡ take (most_bytes + 1) bytes)) }
+// Reads until the input ends or the buffer is full, and answers how much of the buffer is filled. It takes no memory, and each read
+// is offered all that is left of the buffer, since an input that comes in messages loses what a read has no room for.
+fn read_input<R: Read>(input: &mut R, buffer: &mut [u8]) -> io::Result<usize>
+    ensures bound { IfOk result (λ n. n ≤ length buffer.old) }
+    ensures bytes { IfOk result (λ n. IfSome (R.remaining input.old) (λ bytes. take n buffer.new ≡ take (length buffer.old) bytes)) }
 {
-    let mut bytes = Vec::new(heap);
-    input.take(MAX_READ).read_to_end(&mut bytes)?;
+    let mut len = 0;
+    while len < buffer.len() {
+        let n = input.read(&mut buffer[len..])?;
+        if n == 0 {
+            return Ok(len);
+        }
+        len += n;
+    }
+    Ok(len)
+}
+
+// Reads a file to its end, or so many bytes of it.
+fn read_file(rt: &HostRuntime, path: &str) -> io::Result<Vec<u8>> {
+    let mut bytes = Vec::new(rt.alloc());
+    File::open(rt, path)?
+        .take(MAX_READ as u64)
+        .read_to_end(&mut bytes)?;
     Ok(bytes)
 }
 
-// Reads a file, or so many bytes of it.
-fn read_file(rt: &HostRuntime, path: &str) -> io::Result<Vec<u8>> {
-    read_input(rt.alloc(), &mut File::open(rt, path)?)
-}
-
 // The answer to all of the input, however long it is.
-fn answer_input<R: Read>(heap: Global, input: &mut R) -> Result<String>
+fn answer_input<R: Read>(heap: Global, input: &mut R, buffer: &mut [u8; MAX_READ]) -> Result<String>
     ensures { IfOk result (λ s. IfSome (R.remaining input.old) (λ bytes. Answered bytes (string_bytes s))) }
 {
-    let bytes = read_input(heap, input)?;
-    Ok(answer(heap, bytes.as_slice())?)
+    let len = read_input(input, buffer)?;
+    Ok(answer(heap, &buffer[..len])?)
 }
 
 // What is judged of a result file for all of the input. Of a file that is cut off behind the first byte too many, it is what is judged of the
 // whole file.
-fn judge_input<R: Read>(heap: Global, input: &mut R, file: &[u8]) -> Result<String>
+fn judge_input<R: Read>(
+    heap: Global,
+    input: &mut R,
+    buffer: &mut [u8; MAX_READ],
+    file: &[u8],
+) -> Result<String>
     ensures { IfOk result (λ s. IfSome (R.remaining input.old) (λ bytes. (whole : List ℕ) → file.now ≡ take (most_bytes + 1) whole → Refereed bytes whole (string_bytes s))) }
 {
-    let bytes = read_input(heap, input)?;
-    Ok(judge_result(heap, bytes.as_slice(), file)?)
+    let len = read_input(input, buffer)?;
+    Ok(judge_result(heap, &buffer[..len], file)?)
 }
 
 fn check_input(rt: &HostRuntime) -> Result<()> {
-    let text = answer_input(rt.alloc(), &mut rt.stdin())?;
+    let mut buffer = [0; MAX_READ];
+    let text = answer_input(rt.alloc(), &mut rt.stdin(), &mut buffer)?;
     rt.stdout().write_all(text.as_bytes())?;
     Ok(())
 }
 
 fn judge_file(rt: &HostRuntime, path: &str) -> Result<()> {
     let file = read_file(rt, path).context(format_args!("{path}"))?;
-    let text = judge_input(rt.alloc(), &mut rt.stdin(), file.as_slice())?;
+    let mut buffer = [0; MAX_READ];
+    let text = judge_input(rt.alloc(), &mut rt.stdin(), &mut buffer, file.as_slice())?;
     rt.stdout().write_all(text.as_bytes())?;
     Ok(())
 }

@@ -1,6 +1,7 @@
 -- Text written into bytes, piece after piece.
-use Rattle.std.proofs.Common.{◌≡◌, ℕ, ◌+◌, ◌-◌, ◌<◌, ◌≤◌, List, [], ◌∷◌, ◌++◌, length, get_or, take, drop, decimal, Ok, Err, Result, sym, refl, ap, ◌∙◌, arith}
-use Rattle.std.proofs.lemmas.List.{append_assoc, length-append, length-take-le, append-nil, take_at, take-append-drop, take_more, drop_at, drop-drop}
+use Rattle.std.proofs.Common.{◌≡◌, ℕ, ◌+◌, ◌-◌, ◌/◌, ◌%◌, ◌^◌, ◌<◌, ◌≤◌, List, [], ◌∷◌, ◌++◌, length, get_or, take, drop, decimal, Ok, Err, Result, sym, refl, ap, ◌∙◌, arith}
+use Rattle.std.proofs.lemmas.Fmt.{decimal_digit, decimal_step, length-decimal-le}
+use Rattle.std.proofs.lemmas.List.{append_assoc, length-append, length_push, drop_more, drop_all, length-take-le, append-nil, take_at, take-append-drop, take_more, drop_at, drop-drop}
 use Rattle.records.specs.declared.writing.WriteFault.{WriteFault}
 use Rattle.records.specs.declared.writing.WriteFault.TheVariants.{LargeNumber, NoRoom}
 use Rattle.records.specs.Rendering.{numbers_text, line_text, finished}
@@ -38,6 +39,28 @@ text-append (m ∷ ms) ns = ap (λ t. 9 ∷ (decimal m ++ t)) (text-append ms ns
 text_take_more : (ns : List ℕ) (i : ℕ) → i < length ns → numbers_text (take (i + 1) ns) ≡ numbers_text (take i ns) ++ (9 ∷ decimal (get_or ns i 0))
 text_take_more ns i h =
     ap numbers_text (take_more ns i 0 h) ∙ text-append (take i ns) (get_or ns i 0 ∷ []) ∙ ap (λ t. numbers_text (take i ns) ++ (9 ∷ t)) (append-nil (decimal (get_or ns i 0)))
+
+pub one_digit : (n : ℕ) → n < 10 → length (decimal n) ≡ 1
+one_digit n h = ap length (decimal_digit n h)
+
+pub more_digits : (n : ℕ) → 10 ≤ n → n < 2 ^ 16 → length (decimal n) ≡ length (decimal (n / 10)) + 1
+more_digits n h s = ap length (decimal_step n h (omega arith)) ∙ length_push (decimal (n / 10)) (48 + n % 10)
+
+pub five_digits : (n : ℕ) → n < 2 ^ 16 → length (decimal n) ≤ 5
+five_digits n h = length-decimal-le 5 n (omega arith) (omega arith) (omega arith)
+
+pub length-text-step : (ns : List ℕ) (i : ℕ) → i < length ns → length (numbers_text (drop i ns)) ≡ length (decimal (get_or ns i 0)) + length (numbers_text (drop (i + 1) ns)) + 1
+length-text-step ns i h =
+    let e = ap (λ ms. length (numbers_text ms)) (drop_more ns i 0 h) in
+    let l = length-append (decimal (get_or ns i 0)) (numbers_text (drop (i + 1) ns)) in
+    omega arith
+
+pub length-text-end : (ns : List ℕ) (i : ℕ) → length ns ≤ i → length (numbers_text (drop i ns)) ≡ 0
+length-text-end ns i h = ap (λ ms. length (numbers_text ms)) (drop_all i ns h)
+
+-- a tab and the digits of a number behind it
+pub number_added : (line tabbed next : List ℕ) (n : ℕ) → tabbed ≡ line ++ (9 ∷ []) → next ≡ tabbed ++ decimal n → next ≡ line ++ (9 ∷ decimal n)
+number_added line tabbed next n e f = f ∙ ap (λ t. t ++ decimal n) e ∙ append_assoc line (9 ∷ []) (decimal n)
 
 -- a line with one number more
 pub line_more : (letter : ℕ) (ns : List ℕ) (i : ℕ) (line next : List ℕ) → i < length ns → line ≡ letter ∷ numbers_text (take i ns) → next ≡ line ++ (9 ∷ decimal (get_or ns i 0)) → next ≡ letter ∷ numbers_text (take (i + 1) ns)

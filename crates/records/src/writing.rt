@@ -36,16 +36,39 @@ pub type Numbers = ArrayVec<u16, 3>;
 // The bytes of a line.
 type Line = ArrayVec<u8, MAX_LINE>;
 
-// Puts a number behind a tab at a line's end.
+// Puts the digits of a number at a line's end.
 fn push_number(line: &mut Line, n: u16)
-    requires { array_vec_len line.old + 6 ≤ MAX_LINE }
-    ensures text { line.new.items ≡ line.old.items ++ 9 ∷ decimal n }
-    ensures short { array_vec_len line.new ≤ array_vec_len line.old + 6 }
+    requires { array_vec_len line.old + length (decimal n) ≤ MAX_LINE }
+    ensures text { line.new.items ≡ line.old.items ++ decimal n }
+    ensures len { array_vec_len line.new ≡ array_vec_len line.old + length (decimal n) }
 {
-    line.push(b'\t');
-    let mut digits = itoa::Buffer::new();
-    line.try_extend_from_slice(digits.format(n).as_bytes())
-        .unwrap();
+    if n < 10 {
+        line.push(b'0' + n as u8);
+        return;
+    }
+    push_number(line, n / 10);
+    line.push(b'0' + (n % 10) as u8);
+}
+
+// How many digits a number has.
+fn digits(n: u16) -> usize
+    ensures value { result ≡ length (decimal n) }
+    ensures bound { result ≤ 5 }
+{
+    if n < 10 { 1 } else { digits(n / 10) + 1 }
+}
+
+// How many bytes a line of these numbers takes. They are counted and not rendered, which takes five times as long.
+fn line_len(numbers: &[u16]) -> usize
+    requires { length numbers.now ≤ 3 }
+    ensures value { result ≡ length (numbers_text numbers.now) + 2 }
+    ensures bound { result ≤ 20 }
+{
+    let mut len = 2;
+    for n in numbers {
+        len += 1 + digits(*n);
+    }
+    len
 }
 
 // The line of a letter and numbers, its byte 10 included.
@@ -56,6 +79,7 @@ fn render(letter: u8, numbers: &[u16]) -> Line
     let mut line = ArrayVec::new();
     line.push(letter);
     for n in numbers {
+        line.push(b'\t');
         push_number(&mut line, *n);
     }
     line.push(b'\n');
@@ -80,7 +104,7 @@ pub trait Statement: Copy {
         ensures value { result ≡ length (finished (line_text (letter self) (numbers self))) }
         ensures bound { result ≤ 20 }
     {
-        render(self.letter(), self.numbers().as_slice()).len()
+        line_len(self.numbers().as_slice())
     }
 
     /// Writes its line into `out` from `at` on, and answers where the line ends. A refusal writes nothing.

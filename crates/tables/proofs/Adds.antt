@@ -15,7 +15,7 @@ use Rattle.tables.proofs.Adding.{entry_added, home_added, way_added, ways_here}
 use Rattle.tables.proofs.Misfits.{takes_entry, takes_home, takes_way, third_field}
 
 -- The pair of the record lies in the table, and x is its cell.
-record Located (t : Table) (r : Record) (at : ℕ) (x : Cell) : Type 0 where
+pub record Located (t : Table) (r : Record) (at : ℕ) (x : Cell) : Type 0 where
   pub channel : (pair_of r).channel < t.size.channels
   pub place : (pair_of r).place < t.size.places
   pub at_is : at ≡ (pair_of r).channel * t.size.places + (pair_of r).place
@@ -41,13 +41,13 @@ module _ (t : Table) (r : Record) (at : ℕ) (x : Cell) (l : Located t r at x) w
   after : (change : Cell → Cell) → net_of t.size.channels t.size.places (set (vec_items t.cells) at (change x)) ≡ net_of t.size.channels t.size.places (set (vec_items t.cells) ((pair_of r).channel * t.size.places + (pair_of r).place) (change (cell_of t.size.places (vec_items t.cells) (pair_of r).channel (pair_of r).place)))
   after change = λ i. net_of t.size.channels t.size.places (set (vec_items t.cells) (l.at_is i) (change (l.cell_is i)))
 
-added_entry : (t : Table) (c d at : ℕ) (x : Cell) → Located t (Entry c d) at x → Added t (Entry c d) at (as_entry x)
+pub added_entry : (t : Table) (c d at : ℕ) (x : Cell) → Located t (Entry c d) at x → Added t (Entry c d) at (as_entry x)
 added_entry t c d at x l = (takes_entry (meaning_of t) c d l.channel l.place, after t (Entry c d) at x l as_entry ∙ entry_added t.size.channels t.size.places (vec_items t.cells) c d l.channel l.place (there t (Entry c d) at x l))
 
-added_home : (t : Table) (c d at : ℕ) (x : Cell) → Located t (Home c d) at x → Added t (Home c d) at (as_home x)
+pub added_home : (t : Table) (c d at : ℕ) (x : Cell) → Located t (Home c d) at x → Added t (Home c d) at (as_home x)
 added_home t c d at x l = (takes_home (meaning_of t) c d l.channel l.place, after t (Home c d) at x l as_home ∙ home_added t.size.channels t.size.places (vec_items t.cells) c d l.channel l.place (there t (Home c d) at x l))
 
-added_way : (t : Table) (c d h at : ℕ) (x : Cell) → Located t (Way c d h) at x → h < t.size.channels → length x.ways < 8 → Added t (Way c d h) at (with_way x h)
+pub added_way : (t : Table) (c d h at : ℕ) (x : Cell) → Located t (Way c d h) at x → h < t.size.channels → length x.ways < 8 → Added t (Way c d h) at (with_way x h)
 added_way t c d h at x l below few =
     let n = count_is t (Way c d h) at x l in
     (takes_way (meaning_of t) c d l.channel l.place h below (omega arith), after t (Way c d h) at x l (λ z. with_way z h) ∙ way_added t.size.channels t.size.places (vec_items t.cells) c d l.channel l.place (there t (Way c d h) at x l) h)

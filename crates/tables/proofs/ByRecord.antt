@@ -23,7 +23,7 @@ use Rattle.tables.proofs.Pairs.{Same, here, elsewhere, same_pair}
 some_push : (p : Record → Bool) (rs : List Record) (r : Record) → list_any p (rs ++ (r ∷ [])) ≡ (list_any p rs || p r)
 some_push p rs r = list_any-append p rs (r ∷ []) ∙ ap (λ b. list_any p rs || b) (or-false (p r))
 
-drawn_push : (s : Size) (rs : List Record) (r : Record) → drawn s (rs ++ (r ∷ [])) ≡ adding (drawn s rs) r
+pub drawn_push : (s : Size) (rs : List Record) (r : Record) → drawn s (rs ++ (r ∷ [])) ≡ adding (drawn s rs) r
 drawn_push s rs r =
     net_ext refl refl
     (λ c d. some_push (λ q. entry_by q c d) rs r)
@@ -45,7 +45,7 @@ few_more n (Way a b h) few room c d = go (same_pair a b c d)
         omega (arith, less, length-append (n.ways c d) (cond (eqb a c && eqb b d) (h ∷ []) []), ap length same)
     go (elsewhere other e) = rw (e, append-nil) (few c d)
 
-fit_push : (s : Size) (rs : List Record) (r : Record) → Fit s rs → Takes (drawn s rs) r → Fit s (rs ++ (r ∷ []))
+pub fit_push : (s : Size) (rs : List Record) (r : Record) → Fit s rs → Takes (drawn s rs) r → Fit s (rs ++ (r ∷ []))
 fit_push s rs r f t =
     record {
       within = All-push (Within (drawn s rs)) rs r f.within t.within;

@@ -45,7 +45,7 @@ module _ (n : Net) (c d : ℕ) where
     pub takes_home : Takes n (Home c d)
     takes_home = record { within = below_two (Below n (Home c d)) in-channels in-places; room = λ x. x }
 
-    within_way : (h : ℕ) → h < n.channels → Within n (Way c d h)
+    pub within_way : (h : ℕ) → h < n.channels → Within n (Way c d h)
     within_way h l = below_three (Below n (Way c d h)) in-channels in-places l
 
     pub takes_way : (h : ℕ) → h < n.channels → length (n.ways c d) < 8 → Takes n (Way c d h)

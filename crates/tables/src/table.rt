@@ -1,6 +1,6 @@
 //! A network that cells hold.
 
-ghost use Rattle.std.specs.Prelude.{◌≡◌, ℕ, ◌*◌, ◌<◌, get_or, vec_len};
+ghost use Rattle.std.specs.Prelude.{◌≡◌, ℕ, ◌*◌, ◌<◌, length, get_or, vec_len, slice_index_or};
 ghost use Rattle.tables.specs.Cells.{blank, Sound};
 ghost use Rattle.tables.specs.Sizes.{SizeFits};
 
@@ -17,10 +17,17 @@ pub struct Table {
     ghost sound: { (k : ℕ) → k < vec_len cells → Sound size.channels (get_or cells.items k blank) },
 }
 
+// Sets every cell to one of which nothing is said.
+fn clear(cells: &mut [Cell])
+    ensures { (k : ℕ) → k < length cells.new → slice_index_or cells.new k blank ≡ blank }
+{
+    cells.fill(Cell::BLANK);
+}
+
 impl Drop for Table {
     fn drop(self) {
         let Table { size: _, mut cells } = self;
-        cells.fill(Cell::BLANK);
+        clear(cells.as_mut_slice());
         drop(cells);
     }
 }

@@ -1,7 +1,7 @@
 //! Tracing with buffers that suffice and buffers that do not.
 
 use crate::attempt::Attempt;
-use anyhow::ensure;
+use crate::failing::{Failure, require};
 use networks::Network;
 use networks::pairs::pair_count;
 use records::{Record, Size};
@@ -66,10 +66,10 @@ fn trace_into<N: Network>(
     net: &N,
     bytes: usize,
     words: usize,
-) -> anyhow::Result<()> {
+) -> Result<(), Failure> {
     let pairs = pair_count(net);
     let attempt = Attempt::new(rt.alloc(), net, bytes, words)?;
-    ensure!(attempt.kept(pairs), "the buffers are as the answer says");
+    require(attempt.kept(pairs), "the buffers are as the answer says")?;
     match attempt.answer {
         Ok(count) => println!(rt;
             "{pairs} pairs, {bytes} bytes, {words} words: {count} allowed pairs, the bytes beyond as they were, the work 0"
@@ -82,7 +82,7 @@ fn trace_into<N: Network>(
 }
 
 // Traces with buffers that are just long enough, longer, and too short.
-fn vary_lengths<N: Network>(rt: &HostRuntime, net: &N) -> anyhow::Result<()> {
+fn vary_lengths<N: Network>(rt: &HostRuntime, net: &N) -> Result<(), Failure> {
     let pairs = pair_count(net);
     let short = pairs.saturating_sub(1);
     let more = pairs + MORE;
@@ -103,14 +103,14 @@ fn vary_lengths<N: Network>(rt: &HostRuntime, net: &N) -> anyhow::Result<()> {
 }
 
 // Traces the network into more bytes than it has pairs, and answers all of them.
-fn traced<N: Network>(heap: Global, net: &N) -> anyhow::Result<Vec<u8>> {
+fn traced<N: Network>(heap: Global, net: &N) -> Result<Vec<u8>, Failure> {
     let attempt = Attempt::new(heap, net, pair_count(net) + MORE, pair_count(net))?;
     attempt.answer?;
     Ok(attempt.table)
 }
 
 /// Tries buffers of several lengths with both sources of networks.
-pub(super) fn vary(rt: &HostRuntime) -> anyhow::Result<()> {
+pub(super) fn vary(rt: &HostRuntime) -> Result<(), Failure> {
     for size in RINGS {
         let ring = Spidergon::new(size)?;
         vary_lengths(rt, &ring)?;

@@ -1,5 +1,6 @@
 //! What is just within the limits of networks, and what is just beyond them.
 
+use crate::failing::Failure;
 use crate::sources::{size_of, ways_of};
 use networks::faults::StudyFault;
 use networks::pairs::Pair;
@@ -87,7 +88,7 @@ impl fmt::Display for Outcome {
     }
 }
 
-fn spidergon_sizes(rt: &HostRuntime) -> anyhow::Result<()> {
+fn spidergon_sizes(rt: &HostRuntime) -> Result<(), Failure> {
     for size in [1, RING, RING + 1, 0] {
         let outcome = Outcome::of_spidergon(size);
         println!(rt; "spidergon of size {size}: {outcome}")?;
@@ -95,7 +96,7 @@ fn spidergon_sizes(rt: &HostRuntime) -> anyhow::Result<()> {
     Ok(())
 }
 
-fn table_sizes(rt: &HostRuntime) -> anyhow::Result<()> {
+fn table_sizes(rt: &HostRuntime) -> Result<(), Failure> {
     let sizes = [
         (1, 1),
         (CHANNELS, PLACES),
@@ -114,7 +115,7 @@ fn table_sizes(rt: &HostRuntime) -> anyhow::Result<()> {
 }
 
 // Records whose numbers are the last within a small size, or equal to a count.
-fn ranges(rt: &HostRuntime) -> anyhow::Result<()> {
+fn ranges(rt: &HostRuntime) -> Result<(), Failure> {
     let Size { channels, places } = SMALL;
     let (last_channel, last_place) = (channels - 1, places - 1);
     let line = FIRST_LINE + 1;
@@ -153,13 +154,13 @@ fn eight_ways(heap: Global) -> Result<Vec<Record>, AllocError> {
 }
 
 // The ways that a table of these records has.
-fn taken_ways(heap: Global) -> anyhow::Result<Vec<u16>> {
+fn taken_ways(heap: Global) -> Result<Vec<u16>, Failure> {
     let records = eight_ways(heap)?;
     let table = Table::new(heap, SMALL, records.as_slice())?;
     Ok(ways_of(heap, &table, PAIR)?)
 }
 
-fn numbers_of_ways(rt: &HostRuntime) -> anyhow::Result<()> {
+fn numbers_of_ways(rt: &HostRuntime) -> Result<(), Failure> {
     let ways = taken_ways(rt.alloc())?;
     println!(rt; "eight ways of a pair: taken, {ways:?}")?;
     for next in [0, SMALL.channels] {
@@ -174,7 +175,7 @@ fn numbers_of_ways(rt: &HostRuntime) -> anyhow::Result<()> {
     Ok(())
 }
 
-fn numbers_of_records(rt: &HostRuntime) -> anyhow::Result<()> {
+fn numbers_of_records(rt: &HostRuntime) -> Result<(), Failure> {
     for count in [MOST_RECORDS, MOST_RECORDS + 1, MOST_RECORDS + 2] {
         let records = vec![in rt.alloc(); ENTRY; count]?;
         let outcome = Outcome::of_table(rt.alloc(), SMALL, records.as_slice());
@@ -184,7 +185,7 @@ fn numbers_of_records(rt: &HostRuntime) -> anyhow::Result<()> {
 }
 
 // Too many records, one of which has a fault of its own.
-fn faults_among_many(rt: &HostRuntime) -> anyhow::Result<()> {
+fn faults_among_many(rt: &HostRuntime) -> Result<(), Failure> {
     let count = MOST_RECORDS + 2;
     for position in [0, MOST_RECORDS - 1, MOST_RECORDS, MOST_RECORDS + 1] {
         let mut records = vec![in rt.alloc(); ENTRY; count]?;
@@ -202,7 +203,7 @@ fn faults_among_many(rt: &HostRuntime) -> anyhow::Result<()> {
 }
 
 /// Tries sizes, numbers and counts at their limits.
-pub(super) fn approach(rt: &HostRuntime) -> anyhow::Result<()> {
+pub(super) fn approach(rt: &HostRuntime) -> Result<(), Failure> {
     spidergon_sizes(rt)?;
     table_sizes(rt)?;
     ranges(rt)?;

@@ -4,16 +4,19 @@
 
 mod attempt;
 mod buffers;
+mod failing;
 mod limits;
 mod sources;
 
-fn run(rt: &HostRuntime) -> anyhow::Result<()> {
+use crate::failing::Failure;
+
+fn run(rt: &HostRuntime) -> Result<(), Failure> {
     sources::tell_ways(rt)?;
     sources::compare(rt)?;
     limits::approach(rt)?;
     buffers::vary(rt)
 }
 
-fn main(rt: HostRuntime) -> anyhow::Result<()> {
+fn main(rt: HostRuntime) -> Result<(), Failure> {
     run(&rt)
 }

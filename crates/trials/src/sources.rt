@@ -4,7 +4,7 @@ ghost use Rattle.trials.specs.Alike.{AlikeAt, Alike};
 ghost use Rattle.std.specs.Prelude.{T};
 
 use crate::attempt::Attempt;
-use anyhow::ensure;
+use crate::failing::{Failure, require};
 use networks::Network;
 use networks::pairs::{Pair, Ways, pair_count};
 use records::{Record, Size};
@@ -100,23 +100,23 @@ fn records_of<N: Network>(heap: Global, net: &N) -> Result<Vec<Record>, AllocErr
 }
 
 // Traces a network into just enough bytes.
-fn traced<N: Network>(heap: Global, net: &N) -> anyhow::Result<Attempt> {
+fn traced<N: Network>(heap: Global, net: &N) -> Result<Attempt, Failure> {
     let pairs = pair_count(net);
     let attempt = Attempt::new(heap, net, pairs, pairs)?;
-    ensure!(attempt.kept(pairs), "the buffers are as the answer says");
+    require(attempt.kept(pairs), "the buffers are as the answer says")?;
     Ok(attempt)
 }
 
 // Traces both networks, which have to agree, and answers how many pairs are allowed.
-fn same_traces<A: Network, B: Network>(heap: Global, a: &A, b: &B) -> anyhow::Result<usize> {
+fn same_traces<A: Network, B: Network>(heap: Global, a: &A, b: &B) -> Result<usize, Failure> {
     let of_a = traced(heap, a)?;
     let of_b = traced(heap, b)?;
-    ensure!(
+    require(
         of_a.table.as_slice() == of_b.table.as_slice(),
-        "the same table"
-    );
+        "the same table",
+    )?;
     let count = of_a.answer?;
-    ensure!(of_b.answer? == count, "the same count");
+    require(of_b.answer? == count, "the same count")?;
     Ok(count)
 }
 
@@ -128,11 +128,11 @@ struct Common {
 }
 
 impl Common {
-    fn new(heap: Global, size: u16) -> anyhow::Result<Common> {
+    fn new(heap: Global, size: u16) -> Result<Common, Failure> {
         let ring = Spidergon::new(size)?;
         let records = records_of(heap, &ring)?;
         let table = Table::new(heap, size_of(&ring), records.as_slice())?;
-        ensure!(same_answers(&ring, &table), "the same answers");
+        require(same_answers(&ring, &table), "the same answers")?;
         let allowed = same_traces(heap, &ring, &table)?;
         Ok(Common {
             records: records.len(),
@@ -160,7 +160,7 @@ struct Lacking {
 
 impl Lacking {
     // Counts the tables, and those that give other answers than the Spidergon.
-    fn new(heap: Global, size: u16) -> anyhow::Result<Lacking> {
+    fn new(heap: Global, size: u16) -> Result<Lacking, Failure> {
         let ring = Spidergon::new(size)?;
         let records = records_of(heap, &ring)?;
         let mut unlike = 0usize;
@@ -191,7 +191,7 @@ fn first_ways<N: Network>(
 }
 
 /// Tells where channels of a small Spidergon lead.
-pub(super) fn tell_ways(rt: &HostRuntime) -> anyhow::Result<()> {
+pub(super) fn tell_ways(rt: &HostRuntime) -> Result<(), Failure> {
     let ring = Spidergon::new(SMALL)?;
     for channel in ENDS {
         let ways = first_ways(rt.alloc(), &ring, channel)?;
@@ -201,7 +201,7 @@ pub(super) fn tell_ways(rt: &HostRuntime) -> anyhow::Result<()> {
 }
 
 /// Compares Spidergons with the tables of their records.
-pub(super) fn compare(rt: &HostRuntime) -> anyhow::Result<()> {
+pub(super) fn compare(rt: &HostRuntime) -> Result<(), Failure> {
     for size in 1..=LARGEST {
         let Common { records, allowed } = Common::new(rt.alloc(), size)?;
         println!(rt;

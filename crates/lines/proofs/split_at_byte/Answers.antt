@@ -1,10 +1,9 @@
-use Rattle.std.proofs.Common.{◌≢◌, arith}
-use Rattle.std.proofs.lemmas.Grind.{common_steps}
-use Rattle.std.proofs.lemmas.List.Elements.{recursion_from_All}
+use Rattle.lines.proofs.Laws.{lacks_at_all, lacks_in_front}
+use Rattle.std.proofs.Common.{rules}
 use Rattle.lines.proofs.split_at_byte.Goals as goal
 
-pub returns-in-Some-clause-before : goal.returns-in-Some-clause-before
-returns-in-Some-clause-before c = recursion_from_All (λ y. y ≢ c.args.stop) _ (λ k d h e. grind (arith, common_steps))
+pub returns-then-byte-stop-clause-before : goal.returns-then-byte-stop-clause-before
+returns-then-byte-stop-clause-before c = lacks_in_front c.args.stop c.loop-at.at c.args.bytes.now c.loop-at.auto.at-end c.loop-at.invariant
 
-pub returns-in-None-clause-before : goal.returns-in-None-clause-before
-returns-in-None-clause-before c = recursion_from_All (λ y. y ≢ c.args.stop) _ (λ k d h e. grind (arith, common_steps))
+pub returns-clause-before : goal.returns-clause-before
+returns-clause-before c = lacks_at_all c.args.stop c.loop-at.at c.args.bytes.now (search rules) c.loop-at.invariant

@@ -29,7 +29,7 @@ pub returns-in_err-add-clause-reading : goal.returns-in_err-add-clause-reading
 returns-in_err-add-clause-reading c =
     let p = err_from_is_err_and c.from_residual-in_err-add.result c.from_residual-in_err-add.ensures.1 in
     let next = rw c.in_ok-record.was at c.in-Some.ensures.steps.1 in
-    rw (p.1, p.2) (inl (record_refused c.args.file.now c.args.room _ _ _ _ _ _ _ c.loop-record.invariant _ _ _ next c.line.ensures c.in_err-add.ensures.0))
+    rw (p.1, p.2) (inl (record_refused c.args.file.now c.args.room _ _ _ _ _ _ _ c.loop-record.invariant _ _ _ next c.line.ensures.line c.in_err-add.ensures.0))
 
 pub overflow_add-records : goal.overflow_add-records
 overflow_add-records c = omega (arith, fewer_records _ _ _ _ _ c.loop-record.invariant.lines)

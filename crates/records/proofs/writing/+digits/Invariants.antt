@@ -1,0 +1,4 @@
+use Rattle.records.proofs.writing.+digits.Given as goal
+
+abbrev pub decreases-digits : goal.decreases-digits
+decreases-digits l = l.n
