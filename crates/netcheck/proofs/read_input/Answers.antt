@@ -1,4 +1,4 @@
-use Rattle.std.proofs.Common.{rules, arith, length, take, le_refl, ◌-◌, subst}
+use Rattle.std.proofs.Common.{rules, length, le_refl, ◌-◌, subst}
 use Rattle.std.proofs.lemmas.Slice.{take-put_mid_below}
 use Rattle.std.specs.Io.KnownBytes.{Consumes}
 use Rattle.std.proofs.KnownBytes.{Consumes-trans}
